@@ -1,0 +1,95 @@
+-- What the laws of a run say of a whole file, from which demand 3 follows for every format. Assumes nothing.
+use Prim.Native.Nat.{ℕ, _+_, _-_, _≤_, _<_}
+use native.Mathlib.Omega.{arith}
+use native.Mathlib.Decide.{decLe}
+use mathlib.Core.Logic.{_↔_}
+use mathlib.Core.Path.{_≡_, sym, ap, _∙_}
+use mathlib.Core.List.{List, _++_, append-assoc}
+use lib.ListN.{length, take, drop, length-append, length-take, take-append-drop}
+use lib.Seq.{take-append-add}
+use lib.Dec.{leb}
+use borrow.Author.Tests.{le-leb, lt-leb}
+use Rattle.format.specs.declared.Stop.{Stop}
+use Rattle.format.specs.declared.Stop.the-variants as S
+use Rattle.format.specs.Prog.{Prog, Res, ok, stopped, run}
+use Rattle.format.specs.Fits.{Begins}
+use Rattle.format.specs.Alike.{Same}
+use Rattle.format.specs.Outcome.{LIMIT, Outcome, whole, truncated, tooLong, stopOutcome, asOutcome, upTo, outcome}
+use Rattle.format.proofs.Run.{run-cut, run-within, clash}
+use Rattle.format.proofs.Fits.{reads, begins-unique}
+use Rattle.format.proofs.Alike.{same-run}
+
+pub outcome-short : {A : Type 0} (p : Prog A) (s : List ℕ) → length s ≤ LIMIT → outcome p s ≡ asOutcome truncated (run p s 0)
+unfolding outcome
+outcome-short p s h = simp (le-leb _ _ h)
+
+pub outcome-long : {A : Type 0} (p : Prog A) (s : List ℕ) → LIMIT < length s → outcome p s ≡ asOutcome tooLong (run p (upTo LIMIT s) 0)
+unfolding outcome
+outcome-long p s h = simp (lt-leb _ _ h)
+
+-- no stop is a whole file
+never-whole : {A X : Type 0} (o : Outcome A) (x : Stop) (a : A) (n : ℕ) → (o ≡ whole a n → ⊥) → stopOutcome o x ≡ whole a n → X
+never-whole o S.Ends a n d e = absurd (d e)
+never-whole o S.Text a n d e = clash (cc)
+never-whole o S.Version a n d e = clash (cc)
+never-whole o (S.Count w v) a n d e = clash (cc)
+never-whole o S.Empty a n d e = clash (cc)
+
+was-ok : {A : Type 0} (o : Outcome A) (x : Res A) (a : A) (n : ℕ) → (o ≡ whole a n → ⊥) → asOutcome o x ≡ whole a n → x ≡ ok a n
+was-ok o (ok b m) a n d e = cc
+was-ok o (stopped x) a n d e = never-whole o x a n d e
+
+never-cut : {A : Type 0} (a : A) (n : ℕ) → _≡_ {A = Outcome A} truncated (whole a n) → ⊥
+never-cut a n e = clash (cc)
+
+never-long : {A : Type 0} (a : A) (n : ℕ) → _≡_ {A = Outcome A} tooLong (whole a n) → ⊥
+never-long a n e = clash (cc)
+
+-- a beginning of at most the limit is one of what is read of a longer file
+long-begins : {A : Type 0} (limit : ℕ) (p : Prog A) (s : List ℕ) (a : A) (n : ℕ) → Begins p (upTo limit s) a n → (n ≤ limit) × Begins p s a n
+unfolding upTo
+long-begins limit p s a n b =
+    let e : s ≡ b .0 ++ (b .1 ++ drop limit s) = sym (take-append-drop limit s) ∙ ap (λ (u : List ℕ). u ++ drop limit s) (b .2) ∙ append-assoc (b .0) (b .1) (drop limit s) in
+    (omega (arith, b .3, simp length-append at (ap length (b .2)), length-take limit s), (b .0, b .1 ++ drop limit s, e, b .3, b .4))
+
+begins-long : {A : Type 0} (limit : ℕ) (p : Prog A) (s : List ℕ) (a : A) (n : ℕ) → n ≤ limit → Begins p s a n → Begins p (upTo limit s) a n
+unfolding upTo
+begins-long limit p s a n h b =
+    let k : length (b .0) + (limit - n) ≡ limit = omega (arith, b .3) in
+    let e : take limit s ≡ b .0 ++ take (limit - n) (b .1) = ap (take limit) (b .2) ∙ ap (λ (j : ℕ). take j (b .0 ++ b .1)) (sym k) ∙ take-append-add (b .0) (b .1) (limit - n) in
+    (b .0, take (limit - n) (b .1), e, b .3, b .4)
+
+-- a file is read whole exactly where a beginning of it, of at most LIMIT bytes, fits
+pub outcome-whole : {A : Type 0} (p : Prog A) (s : List ℕ) (a : A) (n : ℕ) → outcome p s ≡ whole a n ↔ ((n ≤ LIMIT) × Begins p s a n)
+outcome-whole p s a n = elim (decLe (length s) LIMIT) [
+  | yes h ↦ (
+    λ e. let b = reads p s a n .0 (was-ok truncated (run p s 0) a n (never-cut a n) (sym (outcome-short p s h) ∙ e)) in
+        (omega (arith, b .3, simp length-append at (ap length (b .2))), b),
+    λ w. outcome-short p s h ∙ rw (reads p s a n .1 (w .1)),
+  )
+  | no h ↦ (
+    λ e. long-begins LIMIT p s a n
+        (reads p (upTo LIMIT s) a n .0 (was-ok tooLong (run p (upTo LIMIT s) 0) a n (never-long a n) (sym (outcome-long p s (omega arith)) ∙ e))),
+    λ w. outcome-long p s (omega arith) ∙ rw (reads p (upTo LIMIT s) a n .1 (begins-long LIMIT p s a n (w .0) (w .1))),
+  )
+]
+
+-- the answer and the number of bytes used are the file's alone
+pub outcome-unique : {A : Type 0} (p : Prog A) (s : List ℕ) (a b : A) (n m : ℕ) → Begins p s a n → Begins p s b m → (a ≡ b) × (n ≡ m)
+outcome-unique = begins-unique
+
+module _ {A : Type 0} (p : Prog A) (s : List ℕ) (a : A) (n : ℕ) (e : outcome p s ≡ whole a n) where
+  was-read : run p s 0 ≡ ok a n
+  was-read = reads p s a n .1 (outcome-whole p s a n .0 e .1)
+
+  -- every shorter beginning is truncated
+  pub outcome-cut : (m : ℕ) → m < n → outcome p (take m s) ≡ truncated
+  outcome-cut m l =
+      let w = run-within p s 0 n a (omega arith) was-read in
+      let k = outcome-whole p s a n .0 e .0 in
+      outcome-short p (take m s) (simp length-take (omega arith)) ∙ rw (run-cut p s 0 n m a (omega arith) l (omega arith) was-read)
+
+  -- bytes after n, more or fewer of them, and bytes that are passed over, change nothing
+  pub outcome-same : (t : List ℕ) → n ≤ length t → Same p s t 0 → outcome p t ≡ whole a n
+  outcome-same t l g =
+      outcome-whole p t a n .1 (outcome-whole p s a n .0 e .0, reads p t a n .0 (same-run p s t n a was-read l g))

@@ -1,0 +1,30 @@
+-- What an answer depends on. Assumes nothing.
+use Prim.Native.Nat.{ℕ, _+_, _≤_, _<_}
+use mathlib.Core.Path.{_≡_}
+use mathlib.Core.List.{List}
+use mathlib.Core.Logic.{_↔_, _⊎_}
+use lib.ListN.{length, getD, take, drop}
+use Rattle.format.specs.Text.{textOf}
+use Rattle.format.specs.Prog.{Prog, ret, refuse, byte, pass, text}
+
+-- Two files are alike for a program at a position: their kept bytes and their texts are equal as far as the program goes.
+-- Of the bytes that are passed over, and of what comes after the end, it says nothing
+abbrev pub Alike : {A : Type 0} → Prog A → List ℕ → List ℕ → ℕ → Type 0
+Alike (ret a) s t at = Unit
+Alike (refuse r) s t at = Unit
+Alike (byte k) s t at = (at < length s ↔ at < length t) × (at < length s → (getD s at 0 ≡ getD t at 0) × Alike (k (getD s at 0)) s t (at + 1))
+Alike (pass n p) s t at = (at + n ≤ length s ↔ at + n ≤ length t) × (at + n ≤ length s → Alike p s t (at + n))
+Alike (text n k) s t at = (at + n ≤ length s ↔ at + n ≤ length t)
+    × (at + n ≤ length s → (textOf at (take n (drop at s)) ≡ textOf at (take n (drop at t))) × Alike (k (textOf at (take n (drop at s)))) s t (at + n))
+
+-- the positions whose bytes reach the answer, or decide it: all but those that are passed over and those after the end
+abbrev pub Kept : {A : Type 0} → Prog A → List ℕ → ℕ → ℕ → Type 0
+Kept (ret a) s at i = ⊥
+Kept (refuse r) s at i = ⊥
+Kept (byte k) s at i = (i ≡ at) ⊎ Kept (k (getD s at 0)) s (at + 1) i
+Kept (pass n p) s at i = Kept p s (at + n) i
+Kept (text n k) s at i = ((at ≤ i) × (i < at + n)) ⊎ Kept (k (textOf at (take n (drop at s)))) s (at + n) i
+
+-- t has the kept bytes of s
+abbrev pub Same : {A : Type 0} → Prog A → List ℕ → List ℕ → ℕ → Type 0
+Same p s t at = (i : ℕ) → Kept p s at i → getD s i 0 ≡ getD t i 0

@@ -1,0 +1,101 @@
+-- The kinds of field, from bytes up: numbers, counts and the four kinds of string. Assumes nothing.
+use Prim.Native.Nat.{ℕ, zero, suc, _+_, _*_, _-_}
+use lib.Dec.{leb}
+use Rattle.format.specs.declared.Counted.{Counted}
+use Rattle.format.specs.declared.Counted.the-variants as C
+use Rattle.format.specs.declared.Stop.the-variants as S
+use Rattle.format.specs.Text.{Text, pick}
+use Rattle.format.specs.Prog.{Prog, ret, refuse, byte, pass, text, bind, whenLe}
+
+unfoldable pub u8 : Prog ℕ
+u8 = byte (λ b. ret b)
+
+-- w bytes, the least first. A signed number is read as its two's complement
+unfoldable pub number : ℕ → Prog ℕ
+number zero = ret 0
+number (suc w) = bind u8 (λ b. bind (number w) (λ r. ret (b + 256 * r)))
+
+abbrev pub u16 : Prog ℕ
+u16 = number 2
+
+abbrev pub u32 : Prog ℕ
+u32 = number 4
+
+unfoldable pub skip : ℕ → Prog Unit
+skip n = pass n (ret tt)
+
+unfoldable pub words : ℕ → Prog Text
+words n = text n (λ t. ret t)
+
+-- the first 32-bit number that is negative
+abbrev pub NEGATIVE : ℕ
+NEGATIVE = 2147483648
+
+-- document 01's number of a count, and its limit
+abbrev pub countNumber : Counted → ℕ
+countNumber C.NoticeLines = 1
+countNumber C.Bars = 2
+countNumber C.Tracks = 3
+countNumber C.Strings = 4
+countNumber C.Beats = 5
+countNumber C.Points = 6
+
+abbrev pub limitOf : Counted → ℕ
+limitOf C.NoticeLines = 1000
+limitOf C.Bars = 10000
+limitOf C.Tracks = 100
+limitOf C.Strings = 7
+limitOf C.Beats = 1000
+limitOf C.Points = 1000
+
+-- a count that is negative or over its limit is refused
+unfoldable pub counted : Counted → ℕ → Prog ℕ
+counted which v =
+    whenLe NEGATIVE v (refuse (S.Count which v)) (whenLe v (limitOf which) (ret v) (refuse (S.Count which v)))
+
+unfoldable pub count : Counted → Prog ℕ
+count which = bind u32 (counted which)
+
+-- no text is longer
+abbrev pub MAXSTRING : ℕ
+MAXSTRING = 1048576
+
+-- a length that is over the limit, or negative, is refused before its bytes are sought; then its bytes, kept or passed over
+unfoldable pub stringOf : ℕ → Prog Text
+stringOf n = whenLe n MAXSTRING (words n) (refuse S.Text)
+
+unfoldable pub stringPast : ℕ → Prog Unit
+stringPast n = whenLe n MAXSTRING (skip n) (refuse S.Text)
+
+-- a length byte and a field of fixed width; its bytes past the stated length are passed over
+unfoldable pub fixedString : ℕ → Prog Text
+fixedString width =
+    bind u8 (λ n. whenLe n width (bind (words n) (λ t. bind (skip (width - n)) (λ _. ret t))) (words width))
+
+unfoldable pub fixedStringPast : ℕ → Prog Unit
+fixedStringPast width = bind (skip 1) (λ _. skip width)
+
+-- a field size that is not used, a length byte, the text
+unfoldable pub intByteStringUnused : Prog Text
+intByteStringUnused = bind (skip 4) (λ _. bind u8 words)
+
+unfoldable pub intByteStringUnusedPast : Prog Unit
+intByteStringUnusedPast = bind (skip 4) (λ _. bind u8 skip)
+
+-- a length, the text
+unfoldable pub intString : Prog Text
+intString = bind u32 stringOf
+
+unfoldable pub intStringPast : Prog Unit
+intStringPast = bind u32 stringPast
+
+-- the size less one, and never below 0
+unfoldable pub lessOne : ℕ → ℕ
+lessOne size = pick (leb NEGATIVE size) 0 (size - 1)
+
+-- a size, a length byte that is passed over, the text of size less one
+unfoldable pub intByteString : Prog Text
+intByteString = bind u32 (λ size. bind (skip 1) (λ _. stringOf (lessOne size)))
+
+unfoldable pub intByteStringPast : Prog Unit
+intByteStringPast = bind u32 (λ size. bind (skip 1) (λ _. stringPast (lessOne size)))

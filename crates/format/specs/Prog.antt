@@ -1,0 +1,55 @@
+-- A file format as a value: a program of reads, and what it is to run one. Assumes nothing.
+use Prim.Native.Nat.{ℕ, zero, suc, _+_}
+use mathlib.Core.List.{List}
+use lib.ListN.{length, getD, take, drop}
+use lib.Dec.{ltb, leb, eqb}
+use lib.Bits.{bitAnd}
+use Rattle.format.specs.declared.Stop.{Stop}
+use Rattle.format.specs.declared.Stop.the-variants.{Ends}
+use Rattle.format.specs.Text.{Text, pick, textOf}
+
+-- what is read next: nothing, for here is the result; nothing, for the file is refused; a byte that is kept;
+-- n bytes that are passed over; n bytes of text, of which is kept what is left after the cut and the trim
+pub data Prog (A : Type 0) : Type 0 where
+  ret : A → Prog A
+  refuse : Stop → Prog A
+  byte : (ℕ → Prog A) → Prog A
+  pass : ℕ → Prog A → Prog A
+  text : ℕ → (Text → Prog A) → Prog A
+
+-- the result and where it ends, or why there is none
+pub data Res (A : Type 0) : Type 0 where
+  ok : A → ℕ → Res A
+  stopped : Stop → Res A
+
+-- a program at a position of the file s
+unfoldable pub run : {A : Type 0} → Prog A → List ℕ → ℕ → Res A
+run (ret a) s at = ok a at
+run (refuse r) s at = stopped r
+run (byte k) s at = pick (ltb at (length s)) (run (k (getD s at 0)) s (at + 1)) (stopped Ends)
+run (pass n p) s at = pick (leb (at + n) (length s)) (run p s (at + n)) (stopped Ends)
+run (text n k) s at = pick (leb (at + n) (length s)) (run (k (textOf at (take n (drop at s)))) s (at + n)) (stopped Ends)
+
+-- one program after another
+unfoldable pub bind : {A B : Type 0} → Prog A → (A → Prog B) → Prog B
+bind (ret a) f = f a
+bind (refuse r) f = refuse r
+bind (byte k) f = byte (λ b. bind (k b) f)
+bind (pass n p) f = pass n (bind p f)
+bind (text n k) f = text n (λ r. bind (k r) f)
+
+-- the same k times, from turn number i on, with a state that is handed on
+unfoldable pub turns : {S : Type 0} → ℕ → ℕ → (ℕ → S → Prog S) → S → Prog S
+turns zero i f st = ret st
+turns (suc k) i f st = bind (f i st) (λ t. turns k (i + 1) f t)
+
+-- the first where a is at most b, and else the second
+unfoldable pub whenLe : {A : Type 0} → ℕ → ℕ → Prog A → Prog A → Prog A
+whenLe a b p q = pick (leb a b) p q
+
+unfoldable pub whenEq : {A : Type 0} → ℕ → ℕ → Prog A → Prog A → Prog A
+whenEq a b p q = pick (eqb a b) p q
+
+-- the first where a has a bit of m, and else the second
+unfoldable pub whenBits : {A : Type 0} → ℕ → ℕ → Prog A → Prog A → Prog A
+whenBits a m p q = pick (eqb (bitAnd a m) 0) q p

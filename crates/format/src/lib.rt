@@ -1,0 +1,40 @@
+// The types that reading programs and the code share. The format itself stands in specs/.
+
+// No more bytes of a file are read.
+pub const LIMIT: usize = 16777216;
+
+// A part of the input, from start up to and not including end.
+pub struct Range {
+    pub start: usize,
+    pub end: usize,
+}
+
+// The counts that have a limit.
+pub enum Counted {
+    NoticeLines,
+    Bars,
+    Tracks,
+    Strings,
+    Beats,
+    Points,
+}
+
+// Why reading stopped.
+pub enum Stop {
+    // the bytes end
+    Ends,
+    // a text's length is negative or over its limit
+    Text,
+    // no version that is read
+    Version,
+    // a count is negative or over its limit: which one, and its value in two's complement
+    Count(Counted, u32),
+    // no bars, or no tracks
+    Empty,
+}
+
+// Where reading goes on, or why it does not.
+pub enum Place {
+    At(usize),
+    Stopped(Stop),
+}
