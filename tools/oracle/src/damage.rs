@@ -1,0 +1,103 @@
+//! Altered copies of a made file: damaged anywhere, or blanked only where bytes are passed over.
+
+use crate::dice::Dice;
+use crate::plan::REFUSED_VERSIONS;
+use crate::writer::{COUNTS, Made};
+
+/// A copy in which only bytes that document 01 names as passed over, and bytes after the file's
+/// end, are altered.
+pub fn blanked(made: &Made, dice: &mut Dice) -> Vec<u8> {
+    let way = dice.below(4);
+    let mut bytes = made.bytes.clone();
+    for at in made.passed.iter().flat_map(Clone::clone) {
+        bytes[at] = match way {
+            0 => 0,
+            1 => 0xff,
+            2 => !bytes[at],
+            _ => dice.byte(),
+        };
+    }
+    if dice.percent(20) {
+        bytes.truncate(dice.within(made.used, bytes.len()));
+        bytes.extend(dice.bytes(10));
+    }
+    bytes
+}
+
+pub fn damaged(made: &Made, dice: &mut Dice) -> Vec<u8> {
+    let mut bytes = made.bytes.clone();
+    match dice.below(10) {
+        0..=2 => bytes.truncate(dice.below(bytes.len())),
+        3 | 4 => wrong_count(made, &mut bytes, dice),
+        5 => wrong_size(made, &mut bytes, dice),
+        6 => wrong_version(&mut bytes, dice),
+        7 => shifted(&mut bytes, dice),
+        _ => flipped(&mut bytes, dice),
+    }
+    bytes
+}
+
+fn set_i32(bytes: &mut [u8], at: usize, value: i32) {
+    bytes[at..at + 4].copy_from_slice(&value.to_le_bytes());
+}
+
+fn wrong_count(made: &Made, bytes: &mut [u8], dice: &mut Dice) {
+    let (at, count) = dice.pick(&made.counts);
+    let most = COUNTS[count as usize - 1].1 as i32;
+    let value = dice.pick(&[-1, i32::MIN, i32::MAX, most + 1, most, 0, 1, 2, 256]);
+    set_i32(bytes, at, value);
+}
+
+fn wrong_size(made: &Made, bytes: &mut [u8], dice: &mut Dice) {
+    let edges = [
+        -1,
+        i32::MIN,
+        i32::MAX,
+        0,
+        1,
+        2,
+        1_048_576,
+        1_048_577,
+        1_048_578,
+    ];
+    if made.sizes.is_empty() || dice.percent(20) {
+        if let Some(at) = made.numbers_from_one.get(dice.below(8)) {
+            set_i32(bytes, *at, i32::MIN);
+        }
+        return;
+    }
+    let at = dice.pick(&made.sizes);
+    set_i32(bytes, at, dice.pick(&edges));
+}
+
+fn wrong_version(bytes: &mut [u8], dice: &mut Dice) {
+    let text = dice.pick(&REFUSED_VERSIONS).as_bytes();
+    bytes[0] = 20 + text.len() as u8;
+    bytes[1..21].copy_from_slice(b"FICHIER GUITAR PRO v");
+    bytes[21..21 + text.len()].copy_from_slice(text);
+    if dice.percent(20) {
+        bytes[dice.within(1, 20)] = dice.byte();
+    }
+}
+
+fn shifted(bytes: &mut Vec<u8>, dice: &mut Dice) {
+    let at = dice.below(bytes.len());
+    if dice.percent(50) {
+        bytes.remove(at);
+    } else {
+        bytes.insert(at, dice.byte());
+    }
+}
+
+/// The end of a file is where its beats are, so every other flip is there.
+fn flipped(bytes: &mut [u8], dice: &mut Dice) {
+    for _ in 0..dice.within(1, 4) {
+        let from = if dice.percent(50) { bytes.len() / 2 } else { 0 };
+        let at = dice.within(from, bytes.len() - 1);
+        bytes[at] = if dice.percent(50) {
+            bytes[at] ^ (1 << dice.below(8))
+        } else {
+            dice.byte()
+        };
+    }
+}

@@ -1,0 +1,100 @@
+//! Bytes of a file with what is known of them: which are passed over, where its counts and text
+//! sizes stand.
+
+use std::ops::Range;
+
+/// Document 01's six counts, by their numbers.
+#[derive(Clone, Copy, PartialEq)]
+pub enum Count {
+    Notices = 1,
+    Bars,
+    Tracks,
+    Strings,
+    Beats,
+    Points,
+}
+
+pub const COUNTS: [(Count, usize); 6] = [
+    (Count::Notices, 1_000),
+    (Count::Bars, 10_000),
+    (Count::Tracks, 100),
+    (Count::Strings, 7),
+    (Count::Beats, 1_000),
+    (Count::Points, 1_000),
+];
+
+pub const LONGEST_TEXT: usize = 1_048_576;
+
+#[derive(Clone, Default)]
+pub struct Made {
+    pub bytes: Vec<u8>,
+    /// How many of the bytes are the file's; what follows is not read.
+    pub used: usize,
+    /// What document 01 names as passed over, in order.
+    pub passed: Vec<Range<usize>>,
+    pub counts: Vec<(usize, Count)>,
+    /// Where the four bytes of a text's size stand.
+    pub sizes: Vec<usize>,
+    /// Where ports, channels, lyric track and lyric starts stand.
+    pub numbers_from_one: Vec<usize>,
+}
+
+impl Made {
+    pub fn kept(&mut self, bytes: &[u8]) {
+        self.bytes.extend_from_slice(bytes);
+    }
+
+    pub fn passed(&mut self, bytes: &[u8]) {
+        let start = self.bytes.len();
+        self.kept(bytes);
+        if !bytes.is_empty() {
+            self.passed.push(start..self.bytes.len());
+        }
+    }
+
+    pub fn u8(&mut self, value: u8) {
+        self.kept(&[value]);
+    }
+
+    pub fn i16(&mut self, value: i16) {
+        self.kept(&value.to_le_bytes());
+    }
+
+    pub fn i32(&mut self, value: i32) {
+        self.kept(&value.to_le_bytes());
+    }
+
+    pub fn number_from_one(&mut self, value: i32) {
+        self.numbers_from_one.push(self.bytes.len());
+        self.i32(value);
+    }
+
+    pub fn count(&mut self, count: Count, value: usize) {
+        self.counts.push((self.bytes.len(), count));
+        self.i32(value as i32);
+    }
+
+    pub fn size(&mut self, value: i32) {
+        self.sizes.push(self.bytes.len());
+        self.i32(value);
+    }
+
+    pub fn content(&mut self, bytes: &[u8], kept: bool) {
+        if kept {
+            self.kept(bytes)
+        } else {
+            self.passed(bytes)
+        }
+    }
+
+    pub fn set_i32(&mut self, at: usize, value: i32) {
+        self.bytes[at..at + 4].copy_from_slice(&value.to_le_bytes());
+    }
+
+    /// Marks the end of what is read; `rest` follows it.
+    pub fn finish(mut self, rest: &[u8]) -> Self {
+        self.used = self.bytes.len();
+        self.passed(rest);
+        self
+    }
+}
