@@ -1,0 +1,3 @@
+pub mod Any
+pub mod Points
+pub mod Turn

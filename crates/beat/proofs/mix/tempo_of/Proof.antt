@@ -1,0 +1,16 @@
+-- By the two tests. Assumes nothing.
+use borrow.Author.Needs.{needs}
+use borrow.Author.Tests.{le-leb, lt-leb}
+use Rattle.beat.specs.Mix.{tempoOf}
+use Rattle.beat.proofs.mix.tempo_of.Statement.{statement}
+use Rattle.beat.proofs.mix.tempo_of.Tie as tie
+
+pub tempo-of-spec : {M : Type 1} → statement M
+unfolding tempoOf
+tempo-of-spec =
+    tie.close
+    (tie.spec
+    (λ c. simp (lt-leb _ _ (c .if1 .taken)))
+    (λ c. simp (le-leb _ _ (c .before .if1 .left), lt-leb _ _ (c .if2 .taken)))
+    (λ c. search needs)
+    (λ c. simp (le-leb _ _ (c .before .if1 .left), le-leb _ _ (c .if2 .left))))

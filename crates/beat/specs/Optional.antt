@@ -1,0 +1,24 @@
+-- Flags, bytes below zero, and optional fields. Assumes nothing.
+use Prim.Native.Nat.{ℕ, _-_}
+use mathlib.Core.Bool.{Bool, not}
+use lib.Dec.{ltb, eqb}
+use lib.Bits.{bitAnd}
+use Rattle.format.specs.Text.{pick}
+use Rattle.format.specs.Prog.{Prog, ret}
+use Rattle.curve.specs.Held.{byteHalf}
+
+-- whether flags have a bit of the mask
+unfoldable pub has : (flags mask : ℕ) → Bool
+has flags mask = not (eqb (bitAnd flags mask) 0)
+
+-- the byte that stands for n below zero
+abbrev pub minus : ℕ → ℕ
+minus n = 256 - n
+
+-- whether a byte, as a signed number, is 0 or more
+unfoldable pub notNegative : ℕ → Bool
+notNegative b = ltb b byteHalf
+
+-- a field that is read where it is given; else a value stands for it
+unfoldable pub optional : {A : Type 0} → Bool → Prog A → A → Prog A
+optional given p none = pick given p (ret none)

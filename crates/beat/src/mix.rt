@@ -1,0 +1,192 @@
+// The mix table of a beat: of its values only whether one is given goes on, and the tempo.
+ghost use mathlib.Core.Path.{_≡_};
+ghost use Rattle.format.specs.Place.{Reaches, Gives};
+ghost use Rattle.beat.specs.Mix as format;
+use crate::optional::skip_if;
+use format::Place;
+use model::Tempo;
+
+// Whether each of three values of the mix table is 0 or more.
+struct Signs {
+    a: bool,
+    b: bool,
+    c: bool,
+}
+
+pub struct Mix {
+    pub tempo: Tempo,
+    pub wah_lost: bool,
+    pub change_lost: bool,
+}
+
+pub struct MixRead {
+    pub mix: Mix,
+    pub next: Place,
+}
+
+struct SignRead {
+    given: bool,
+    next: Place,
+}
+
+struct SignsRead {
+    signs: Signs,
+    next: Place,
+}
+
+pub(crate) const NO_MIX: Mix = Mix {
+    tempo: Tempo::NoTempo,
+    wah_lost: false,
+    change_lost: false,
+};
+
+fn sign_at(s: &[u8], from: Place) -> SignRead
+    ensures { λ r. ⌜ Reaches format.sign (now (s .entry)) from (r .given) (r .next) ⌝ }
+{
+    let b = bin::u8_at(s, from);
+    let next = b.next;
+    SignRead {
+        given: b.value < crate::NEGATIVE_BYTE,
+        next,
+    }
+}
+
+fn three_signs(s: &[u8], from: Place) -> SignsRead
+    ensures { λ r. ⌜ Reaches format.threeSigns (now (s .entry)) from (r .signs) (r .next) ⌝ }
+{
+    let a = sign_at(s, from);
+    let at = a.next;
+    let b = sign_at(s, at);
+    let at = b.next;
+    let c = sign_at(s, at);
+    let next = c.next;
+    SignsRead {
+        signs: Signs {
+            a: a.given,
+            b: b.given,
+            c: c.given,
+        },
+        next,
+    }
+}
+
+fn three_durations(s: &[u8], from: Place, x: Signs) -> Place
+    ensures { λ r. ⌜ Reaches (format.threeDurations x) (now (s .entry)) from tt r ⌝ }
+{
+    skip_if(s, skip_if(s, skip_if(s, from, x.a, 1), x.b, 1), x.c, 1)
+}
+
+fn tempo_name_past(s: &[u8], from: Place, v: u32) -> Place
+    ensures { λ r. ⌜ Reaches (format.tempoName v) (now (s .entry)) from tt r ⌝ }
+{
+    if 500 <= v {
+        return bin::string::int_byte_string_past(s, from);
+    }
+    from
+}
+
+fn tempo_end(s: &[u8], from: Place, v: u32, tempo: u32) -> Place
+    ensures { λ r. ⌜ Reaches (format.tempoEnd v tempo) (now (s .entry)) from tt r ⌝ }
+{
+    let given = tempo < crate::NEGATIVE;
+    skip_if(s, skip_if(s, from, given, 1), given & (510 <= v), 1)
+}
+
+fn wah_at(s: &[u8], from: Place, v: u32) -> SignRead
+    ensures { λ r. ⌜ Reaches (format.wah v) (now (s .entry)) from (r .given) (r .next) ⌝ }
+{
+    if 500 <= v {
+        return sign_at(s, from);
+    }
+    SignRead {
+        given: false,
+        next: from,
+    }
+}
+
+fn mix_strings_past(s: &[u8], from: Place, v: u32) -> Place
+    ensures { λ r. ⌜ Reaches (format.mixStrings v) (now (s .entry)) from tt r ⌝ }
+{
+    if v < 510 {
+        return from;
+    }
+    let at = bin::string::int_byte_string_past(s, from);
+    bin::string::int_byte_string_past(s, at)
+}
+
+// The tempo in 1..999, or none.
+fn tempo_of(tempo: u32) -> Tempo
+    ensures { λ r. ⌜ r ≡ format.tempoOf tempo ⌝ }
+{
+    if tempo < 1 {
+        return Tempo::NoTempo;
+    }
+    if 999 < tempo {
+        return Tempo::NoTempo;
+    }
+    Tempo::Bpm(tempo as u16)
+}
+
+fn mix_end(s: &[u8], from: Place, v: u32, changed: bool, tempo: u32) -> MixRead
+    ensures { λ r. ⌜ Reaches (format.mixEnd v changed tempo) (now (s .entry)) from (r .mix) (r .next) ⌝ }
+{
+    let at = tempo_end(s, from, v, tempo);
+    let wah = wah_at(s, skip_if(s, at, 400 <= v, 1), v);
+    let at = wah.next;
+    let next = mix_strings_past(s, at, v);
+    MixRead {
+        mix: Mix {
+            tempo: tempo_of(tempo),
+            wah_lost: wah.given,
+            change_lost: changed,
+        },
+        next,
+    }
+}
+
+fn any_given(instrument: bool, x: Signs, y: Signs) -> bool
+    ensures { λ r. ⌜ r ≡ format.anyGiven instrument x y ⌝ }
+{
+    instrument | (x.a | x.b | x.c) | (y.a | y.b | y.c)
+}
+
+fn mix_tempo(s: &[u8], from: Place, v: u32, instrument: bool, x: Signs, y: Signs) -> MixRead
+    ensures { λ r. ⌜ Reaches (format.mixTempo v instrument x y) (now (s .entry)) from (r .mix) (r .next) ⌝ }
+{
+    let tempo = bin::u32_at(s, tempo_name_past(s, from, v));
+    let at = tempo.next;
+    let at = three_durations(s, three_durations(s, at, x), y);
+    mix_end(s, at, v, any_given(instrument, x, y), tempo.value)
+}
+
+fn mix_table(s: &[u8], from: Place, v: u32) -> MixRead
+    ensures { λ r. ⌜ Reaches (format.mixTable v) (now (s .entry)) from (r .mix) (r .next) ⌝ }
+{
+    let instrument = sign_at(s, from);
+    let at = instrument.next;
+    let first = three_signs(s, skip_if(s, at, 500 <= v, 16));
+    let at = first.next;
+    let second = three_signs(s, at);
+    let at = second.next;
+    let x = first.signs;
+    let y = second.signs;
+    mix_tempo(s, at, v, instrument.given, x, y)
+}
+
+// The mix table, where the beat's flags say that it has one.
+pub fn read_mix_table(s: &[u8], from: Place, v: u32, flags: u8) -> MixRead
+    ensures { λ r. ⌜ Gives (format.mix v flags) format.noMix (now (s .entry)) from (r .mix) (r .next) ⌝ }
+{
+    if flags & 0x10 == 0 {
+        return MixRead {
+            mix: NO_MIX,
+            next: from,
+        };
+    }
+    let read = mix_table(s, from, v);
+    let next = read.next;
+    let Place::At(_) = next else {
+        return MixRead { mix: NO_MIX, next };
+    };
+    read
+}

@@ -1,0 +1,8 @@
+pub mod Held
+pub mod Key
+pub mod Slide
+pub mod Level
+pub mod Bend
+pub mod Slots
+pub mod Laws
+pub mod Examples

@@ -1,0 +1,4 @@
+pub mod Words
+pub mod Changed
+pub mod Fits
+pub mod Laws

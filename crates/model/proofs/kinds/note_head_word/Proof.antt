@@ -1,0 +1,13 @@
+-- The word of a kind, case by case. Assumes nothing.
+use borrow.Author.Needs.{needs}
+use Rattle.model.proofs.kinds.note_head_word.Statement.{statement}
+use Rattle.model.proofs.kinds.note_head_word.Tie as tie
+
+pub note-head-word-spec : {M : Type 1} → statement M
+note-head-word-spec =
+    tie.close
+    (tie.spec
+    (λ c. search needs)
+    (λ c. search needs)
+    (λ c. rw (c .enum-told .given .1))
+    (λ c. rw (c .enum-told2 .given .1)))

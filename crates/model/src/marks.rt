@@ -1,0 +1,88 @@
+// The articulations of a row, in the order added and none twice.
+use crate::Articulation;
+use crate::Articulations;
+use crate::MarkAt;
+use crate::kinds;
+ghost use mathlib.Core.Path.{_≡_};
+ghost use Prim.Native.Nat.{_-_, _/_, _%_};
+ghost use Rattle.model.specs.Kinds.{articulationWord, articulationOf};
+ghost use Rattle.model.specs.Marks.{noMarks, hasDigit, withDigit, addMark, shifted, markAt};
+
+pub fn none_added() -> Articulations
+    ensures { λ r. ⌜ r ≡ noMarks ⌝ }
+{
+    Articulations {
+        count: 0,
+        digits: 0,
+    }
+}
+
+// Whether a digit is among the last `count`.
+fn has_digit(count: u8, digits: u64, digit: u64) -> bool
+    ensures { λ r. ⌜ r ≡ hasDigit digit count digits ⌝ }
+{
+    let mut n = count;
+    let mut d = digits;
+    while 0 < n {
+        if d % 16 == digit {
+            return true;
+        }
+        d /= 16;
+        n -= 1;
+    }
+    false
+}
+
+fn digit_of(a: Articulation) -> u64
+    ensures { λ r. ⌜ r ≡ articulationWord a ⌝ }
+{
+    kinds::articulation_word(a) as u64
+}
+
+// One more digit; sixteen stay as they are.
+fn with_digit(m: Articulations, digit: u64) -> Articulations
+    ensures { λ r. ⌜ r ≡ withDigit digit m ⌝ }
+{
+    if 16 <= m.count {
+        return m;
+    }
+    Articulations {
+        count: m.count + 1,
+        digits: m.digits % 1152921504606846976 * 16 + digit % 16,
+    }
+}
+
+// With one more, unless it is there.
+pub fn added(m: Articulations, a: Articulation) -> Articulations
+    ensures { λ r. ⌜ r ≡ addMark a m ⌝ }
+{
+    let digit = digit_of(a);
+    if has_digit(m.count, m.digits, digit) {
+        return m;
+    }
+    with_digit(m, digit)
+}
+
+// A number without its last `n` digits.
+fn without_last(digits: u64, n: u8) -> u64
+    ensures { λ r. ⌜ r ≡ shifted n digits ⌝ }
+{
+    let mut d = digits;
+    let mut left = n;
+    while 0 < left {
+        d /= 16;
+        left -= 1;
+    }
+    d
+}
+
+// The articulation that was added as number `k`, from 0.
+pub fn mark_at(m: Articulations, k: u8) -> MarkAt
+    ensures { λ r. ⌜ r ≡ markAt m k ⌝ }
+{
+    if m.count <= k {
+        return MarkAt::NoMark;
+    }
+    let d = without_last(m.digits, m.count - 1 - k);
+    MarkAt::ThisMark(kinds::articulation_of((d % 16) as u32))
+}

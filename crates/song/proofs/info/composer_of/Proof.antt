@@ -1,0 +1,13 @@
+-- By the test. Assumes nothing.
+use borrow.Author.Tests.{eq-eqb, ne-eqb}
+use Rattle.song.specs.Info.{composerOf}
+use Rattle.song.proofs.info.composer_of.Statement.{statement}
+use Rattle.song.proofs.info.composer_of.Tie as tie
+
+pub composer-of-spec : {M : Type 1} → statement M
+unfolding composerOf
+composer-of-spec =
+    tie.close
+    (tie.spec
+    (λ c. simp (eq-eqb _ _ (c .if1 .taken)))
+    (λ c. simp (ne-eqb _ _ (c .if1 .left))))

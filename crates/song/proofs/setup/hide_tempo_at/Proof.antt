@@ -1,0 +1,15 @@
+-- The field, where it stands. Assumes nothing.
+use borrow.Author.Needs.{needs}
+use Rattle.format.proofs.Rules.{reading}
+use Rattle.song.specs.Setup.{hideTempo}
+use Rattle.song.proofs.setup.hide_tempo_at.Statement.{statement}
+use Rattle.song.proofs.setup.hide_tempo_at.Tie as tie
+
+pub hide-tempo-at-spec : {M : Type 1} → statement M
+unfolding hideTempo
+hide-tempo-at-spec =
+    tie.close
+    (tie.spec
+    (λ c κs. search needs)
+    (λ c. search reading)
+    (λ c. search reading))

@@ -1,0 +1,5 @@
+pub mod Version
+pub mod Info
+pub mod Setup
+pub mod Header
+pub mod Track
