@@ -1,0 +1,11 @@
+pub mod File
+pub mod Examples
+pub mod Sounding
+pub mod Members
+pub mod Rows
+pub mod Passes
+pub mod Bars
+pub mod Losses
+pub mod Score
+pub mod Summary
+pub mod Files
