@@ -9,8 +9,8 @@ use lib.ListN.{length, getD, take, drop, length-take, length-drop}
 use lib.Seq.{ext-getD, getD-take, getD-drop}
 use Rattle.format.specs.Text.{textOf}
 use Rattle.format.specs.Prog.{Prog, ret, refuse, byte, pass, text, ok, run}
-use Rattle.format.specs.Alike.{Alike, Kept, Same}
-use Rattle.format.proofs.Run.{run-ret, run-refuse, byte-goes, byte-ends, pass-goes, pass-ends, text-goes, text-ends, ret-ok, refuse-ok, byte-ok, pass-ok, text-ok, run-within}
+use Rattle.format.specs.Alike.{Alike, Same}
+use Rattle.format.proofs.Run.{run-ret, run-refuse, byte-goes, byte-ends, pass-goes, pass-ends, text-goes, text-ends, byte-ok, pass-ok, text-ok, run-within}
 
 le-of : {a b : ℕ} → (a < b → ⊥) → b ≤ a
 le-of h = omega arith

@@ -3,7 +3,7 @@ use Prim.Native.Nat.{ℕ, zero, suc, _+_, _*_, _≤_, _<_}
 use native.Mathlib.Omega.{arith}
 use native.Mathlib.Numerals.{add-one}
 use native.Mathlib.Nat.{add-zero}
-use mathlib.Core.Path.{_≡_, refl, ap, sym, _∙_}
+use mathlib.Core.Path.{_≡_, refl, ap, _∙_}
 use native.Mathlib.Decide.{decLt}
 use mathlib.Core.List.{List, [], _∷_}
 use lib.ListN.{length, getD, take, drop}
@@ -12,7 +12,7 @@ use Rattle.format.specs.declared.Stop.the-variants.{Ends}
 use Rattle.format.specs.declared.Place.the-variants.{At, Stopped}
 use Rattle.format.specs.declared.Place.{Place}
 use Rattle.format.specs.Prog.{Prog, ret, ok, stopped, run, bind}
-use Rattle.format.specs.Place.{Reaches, Gives}
+use Rattle.format.specs.Place.{Gives}
 use Rattle.format.specs.Fields.{u8, number, u16, u32, skip}
 use Rattle.format.proofs.Rules.{starting, stopping, returned-at}
 use Rattle.format.proofs.Run.{run-bind, run-ret, byte-goes, byte-ends, pass-goes, pass-ends}

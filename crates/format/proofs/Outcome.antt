@@ -7,7 +7,6 @@ use mathlib.Core.Path.{_≡_, sym, ap, _∙_}
 use mathlib.Core.List.{List, _++_, append-assoc}
 use lib.ListN.{length, take, drop, length-append, length-take, take-append-drop}
 use lib.Seq.{take-append-add}
-use lib.Dec.{leb}
 use borrow.Author.Tests.{le-leb, lt-leb}
 use Rattle.format.specs.declared.Stop.{Stop}
 use Rattle.format.specs.declared.Stop.the-variants as S
@@ -16,7 +15,7 @@ use Rattle.format.specs.Fits.{Begins}
 use Rattle.format.specs.Alike.{Same}
 use Rattle.format.specs.Outcome.{LIMIT, Outcome, whole, truncated, tooLong, stopOutcome, asOutcome, upTo, outcome}
 use Rattle.format.proofs.Run.{run-cut, run-within, clash}
-use Rattle.format.proofs.Fits.{reads, begins-unique}
+use Rattle.format.proofs.Fits.{reads}
 use Rattle.format.proofs.Alike.{same-run}
 
 pub outcome-short : {A : Type 0} (p : Prog A) (s : List ℕ) → length s ≤ LIMIT → outcome p s ≡ asOutcome truncated (run p s 0)
@@ -73,10 +72,6 @@ outcome-whole p s a n = elim (decLe (length s) LIMIT) [
     λ w. outcome-long p s (omega arith) ∙ rw (reads p (upTo LIMIT s) a n .1 (begins-long LIMIT p s a n (w .0) (w .1))),
   )
 ]
-
--- the answer and the number of bytes used are the file's alone
-pub outcome-unique : {A : Type 0} (p : Prog A) (s : List ℕ) (a b : A) (n m : ℕ) → Begins p s a n → Begins p s b m → (a ≡ b) × (n ≡ m)
-outcome-unique = begins-unique
 
 module _ {A : Type 0} (p : Prog A) (s : List ℕ) (a : A) (n : ℕ) (e : outcome p s ≡ whole a n) where
   was-read : run p s 0 ≡ ok a n

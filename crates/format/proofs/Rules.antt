@@ -9,9 +9,9 @@ use borrow.Author.Tests.{le-leb, lt-leb, eq-eqb, ne-eqb, not-true, not-false}
 use Rattle.format.specs.declared.Stop.{Stop}
 use Rattle.format.specs.declared.Place.{Place}
 use Rattle.format.specs.declared.Place.the-variants.{At, Stopped}
-use Rattle.format.specs.Prog.{Prog, Res, ok, stopped, run, bind, ret, refuse, turns, whenLe, whenEq, whenBits}
+use Rattle.format.specs.Prog.{Prog, bind, ret, refuse, turns, whenLe, whenEq, whenBits}
 use Rattle.format.specs.Place.{resume, reached, Reaches, Gives, Leads}
-use Rattle.format.proofs.Run.{run-bind, run-ret, run-refuse, andThen, clash}
+use Rattle.format.proofs.Run.{run-bind, run-ret, run-refuse, clash}
 
 -- ---- one step after another
 resume-bind : {A B : Type 0} (p : Prog A) (f : A → Prog B) (s : List ℕ) (from mid : Place) (a : A) → resume p s from ≡ reached a mid → resume (bind p f) s from ≡ resume (f a) s mid

@@ -5,7 +5,7 @@ use mathlib.Core.List.{List}
 use Rattle.format.specs.declared.Place.{Place}
 use Rattle.format.specs.declared.Place.the-variants.{At, Stopped}
 use Rattle.format.specs.Prog.{Prog}
-use Rattle.format.specs.Place.{reached, Reaches, Gives}
+use Rattle.format.specs.Place.{reached, Gives}
 use Rattle.format.proofs.Run.{clash}
 
 -- equal results are reached at equal places, with equal values where they go on

@@ -1,17 +1,16 @@
 -- Bars: what is made of the headers, the directions and the tempos. Assumes nothing.
 use Prim.Native.Nat.{ℕ, zero, suc, _+_}
-use mathlib.Core.List.{List, [], _∷_, _++_}
-use mathlib.Core.Bool.{Bool, true, false, not, _&&_, _||_}
+use mathlib.Core.List.{List, [], _∷_}
+use mathlib.Core.Bool.{Bool, true, false, not, _&&_}
 use lib.ListN.{getD, length}
 use lib.Dec.{eqb, ltb}
-use lib.IntN.{ℤ, pos, negsuc}
+use lib.IntN.{pos, negsuc}
 use Rattle.format.specs.Text.{pick}
 use Rattle.model.specs.declared.Bar.{Bar}
 use Rattle.model.specs.declared.Time.{Time}
 use Rattle.model.specs.declared.Key.{Key}
 use Rattle.model.specs.declared.Key.the-variants.{NoKey, Fifths}
-use Rattle.model.specs.declared.Mode.{Mode}
-use Rattle.model.specs.declared.Mode.the-variants.{Major, Minor}
+use Rattle.model.specs.declared.Mode.the-variants.{Major}
 use Rattle.model.specs.declared.Tempo.{Tempo}
 use Rattle.model.specs.declared.Ending.{Ending}
 use Rattle.model.specs.declared.Ending.the-variants.{NoEnding, Nth}

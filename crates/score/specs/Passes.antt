@@ -9,7 +9,6 @@ use Rattle.model.specs.declared.TabPosition.{TabPosition}
 use Rattle.model.specs.declared.TabPosition.the-variants.{OffTablature, Fretted}
 use Rattle.model.specs.declared.Finger.{Finger}
 use Rattle.model.specs.declared.Finger.the-variants.{NoFinger}
-use Rattle.model.specs.declared.Ottava.{Ottava}
 use Rattle.model.specs.declared.Ottava.the-variants.{NoOttava}
 use Rattle.model.specs.declared.OttavaMarks.{OttavaMarks}
 use Rattle.model.specs.declared.RowKind.{RowKind}

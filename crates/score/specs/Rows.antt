@@ -1,17 +1,14 @@
 -- Rows: what a kept beat gives, with its members and its curve. Assumes nothing.
-use Prim.Native.Nat.{ℕ, _+_}
+use Prim.Native.Nat.{ℕ}
 use mathlib.Core.List.{List, [], _∷_, _++_, map}
-use mathlib.Core.Bool.{Bool, true, false, not, _&&_, _||_}
-use lib.ListN.{length}
-use lib.Dec.{ltb, eqb}
+use mathlib.Core.Bool.{Bool, true, false, _&&_, _||_}
+use lib.Dec.{eqb}
 use Rattle.format.specs.declared.Range.{Range}
 use Rattle.format.specs.Text.{pick}
 use Rattle.model.specs.declared.Articulation.{Articulation}
 use Rattle.model.specs.declared.Articulation.the-variants as A
 use Rattle.model.specs.declared.Arpeggio.{Arpeggio}
 use Rattle.model.specs.declared.Arpeggio.the-variants.{NoArpeggio}
-use Rattle.model.specs.declared.Dynamic.{Dynamic}
-use Rattle.model.specs.declared.Dynamic.the-variants as D
 use Rattle.model.specs.declared.Duration.the-variants.{ThirtySecond}
 use Rattle.model.specs.declared.Tuplet.the-variants.{NoTuplet}
 use Rattle.model.specs.declared.NoteValue.{NoteValue}
@@ -31,7 +28,7 @@ use Rattle.model.specs.Marks.{addOnce}
 use Rattle.curve.specs.Bend.{pointOf, finish}
 use Rattle.curve.specs.Level.{chordOf, levelAfter}
 use Rattle.curve.specs.declared.level.Level.{Level}
-use Rattle.curve.specs.declared.level.Level.the-variants.{Absent, Given}
+use Rattle.curve.specs.declared.level.Level.the-variants.{Absent}
 use Rattle.curve.specs.declared.level.NoteLevel.{NoteLevel}
 use Rattle.curve.specs.declared.slide.SlideEffect.{SlideEffect}
 use Rattle.song.specs.declared.track.Track.{Track}
@@ -44,7 +41,6 @@ use Rattle.beat.specs.declared.effects.PickStroke.the-variants as P
 use Rattle.beat.specs.declared.marks.Tremolo.{Tremolo}
 use Rattle.beat.specs.declared.marks.Tremolo.the-variants.{NoTremolo, Strokes}
 use Rattle.beat.specs.Points.{BendPoint}
-use Rattle.beat.specs.Note.{NoteIs}
 use Rattle.beat.specs.Beat.{BeatIs}
 use Rattle.score.specs.Members.{Keyed, Graced, graces, memberOf, graceMember}
 

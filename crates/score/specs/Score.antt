@@ -1,8 +1,8 @@
 -- The whole reading as lists: the state that headers, tracks and beats are added to, and the answer. Assumes nothing.
-use Prim.Native.Nat.{ℕ, zero, suc, _+_, _-_, _*_, _^_}
+use Prim.Native.Nat.{ℕ, _+_, _-_, _*_, _^_}
 use mathlib.Core.List.{List, [], _∷_, _++_}
 use mathlib.Core.Bool.{Bool, true, false, not, _&&_, _||_}
-use lib.ListN.{getD, set, length, replicate}
+use lib.ListN.{getD, set, length}
 use lib.Dec.{eqb}
 use Rattle.format.specs.Text.{Text, pick}
 use Rattle.model.specs.declared.Loss.{Loss}
@@ -10,7 +10,6 @@ use Rattle.model.specs.declared.Loss.the-variants.{TripletFeel, UnsupportedDire
 use Rattle.model.specs.declared.Tempo.{Tempo}
 use Rattle.model.specs.declared.Tempo.the-variants.{NoTempo, Bpm}
 use Rattle.curve.specs.Level.{forte, chordOf, levelAfter}
-use Rattle.curve.specs.declared.level.NoteLevel.{NoteLevel}
 use Rattle.song.specs.declared.header.Header.{Header}
 use Rattle.song.specs.declared.track.Track.{Track}
 use Rattle.song.specs.Header.{has}

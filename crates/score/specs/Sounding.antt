@@ -3,8 +3,7 @@ use Prim.Native.Nat.{ℕ, zero, suc, _+_, _-_, _^_}
 use mathlib.Core.List.{List, [], _∷_}
 use mathlib.Core.Bool.{Bool, _&&_}
 use lib.ListN.{getD, replicate, set}
-use lib.Dec.{ltb, eqb}
-use lib.Bits.{bitAnd}
+use lib.Dec.{ltb}
 use Rattle.format.specs.Text.{pick}
 use Rattle.song.specs.declared.track.Track.{Track}
 use Rattle.song.specs.Header.{has}

@@ -1,7 +1,7 @@
 -- Without the blanks at its end the text is as long as it was. Assumes nothing.
 use borrow.Author.Needs.{needs}
 use native.Mathlib.Omega.{arith}
-use Prim.Native.Nat.{_-_, _≤_}
+use Prim.Native.Nat.{_≤_}
 use mathlib.Core.Path.{_≡_}
 use lib.Seq.{slice}
 use Rattle.format.specs.Text.{keepLen}
