@@ -11,5 +11,5 @@ from-zero-spec =
     tie.close
     (tie.spec
     (λ c κs. search needs)
-    (λ c. rw (← (c .before .less-one .ensures)) (simp (le-leb _ _ (c .if1 .taken))))
-    (λ c. rw (← (c .before .less-one .ensures)) (simp (lt-leb _ _ (c .if1 .left)))))
+    (λ c. rw (← (c .before .less-one .ensures)) (simp (le-leb _ (c .before .less-one .result) (c .if1 .taken))))
+    (λ c. rw (← (c .before .less-one .ensures)) (simp (lt-leb _ (c .before .less-one .result) (c .if1 .left)))))

@@ -8,10 +8,10 @@ use Rattle.tables.proofs.start_of.Statement.{statement}
 use Rattle.tables.proofs.start_of.Tie as tie
 
 inside : (c : tie.Then2) → c .before .before .args .i * c .before .before .args .stride ≤ length (c .before .before .args .t .now)
-inside c = le-div-iff-mul-le {k = c .before .before .args .stride} (omega arith) .0 (c .if2 .taken)
+inside c = le-div-iff-mul-le {k = c .before .before .args .stride} (omega arith) .0 (omega arith)
 
 past : (c : tie.Else2) → length (c .before .before .args .t .now) < c .before .before .args .i * c .before .before .args .stride
-past c = div-lt-iff-lt-mul {k = c .before .before .args .stride} (omega arith) .0 (c .if2 .left)
+past c = div-lt-iff-lt-mul {k = c .before .before .args .stride} (omega arith) .0 (omega arith)
 
 pub start-of-spec : {M : Type 1} → statement M
 start-of-spec =

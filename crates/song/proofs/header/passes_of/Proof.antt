@@ -9,5 +9,5 @@ unfolding passesOf
 passes-of-spec =
     tie.close
     (tie.spec
-    (λ c. simp (le-leb _ _ (c .if1 .taken)))
-    (λ c. simp (lt-leb _ _ (c .if1 .left))))
+    (λ c. simp (le-leb 2 _ (c .if1 .taken)))
+    (λ c. simp (lt-leb 2 _ (c .if1 .left))))

@@ -9,5 +9,5 @@ unfolding composerOf
 composer-of-spec =
     tie.close
     (tie.spec
-    (λ c. simp (eq-eqb _ _ (c .if1 .taken)))
-    (λ c. simp (ne-eqb _ _ (c .if1 .left))))
+    (λ c. simp (eq-eqb (c .before .before .args .music .end) 0 (c .if1 .taken)))
+    (λ c. simp (ne-eqb (c .before .before .args .music .end) 0 (c .if1 .left))))

@@ -10,6 +10,6 @@ unfolding barNumber
 bar-number-spec =
     tie.close
     (tie.spec
-    (λ c. simp (le-leb _ _ (c .if1 .taken)))
+    (λ c. simp (le-leb 32768 _ (c .if1 .taken)))
     (λ c. search needs)
-    (λ c. simp (lt-leb _ _ (c .if1 .left))))
+    (λ c. simp (lt-leb 32768 _ (c .if1 .left))))

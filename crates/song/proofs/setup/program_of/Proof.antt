@@ -11,5 +11,5 @@ program-of-spec =
     tie.close
     (tie.spec
     (λ c. search needs)
-    (λ c. simp (le-leb _ _ (c .if1 .taken)))
-    (λ c. simp (lt-leb _ _ (c .if1 .left))))
+    (λ c. simp (le-leb _ 127 (c .if1 .taken)))
+    (λ c. simp (lt-leb _ 127 (c .if1 .left))))

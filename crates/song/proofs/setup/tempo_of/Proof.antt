@@ -10,7 +10,7 @@ unfolding tempoOf
 tempo-of-spec =
     tie.close
     (tie.spec
-    (λ c. simp (lt-leb _ _ (c .if1 .taken)))
+    (λ c. simp (lt-leb 1 _ (c .if1 .taken)))
     (λ c. search needs)
-    (λ c. simp (le-leb _ _ (c .before .if1 .left), le-leb _ _ (c .if2 .taken)))
-    (λ c. simp (le-leb _ _ (c .before .if1 .left), lt-leb _ _ (c .if2 .left))))
+    (λ c. simp (le-leb 1 _ (c .before .if1 .left), le-leb _ 999 (c .if2 .taken)))
+    (λ c. simp (le-leb 1 _ (c .before .if1 .left), lt-leb _ 999 (c .if2 .left))))
