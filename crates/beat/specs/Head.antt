@@ -2,25 +2,16 @@
 use Prim.Native.Nat.{ℕ}
 use mathlib.Core.Bool.{false, _&&_}
 use lib.Dec.{leb, eqb}
-use Rattle.model.specs.declared.Duration.{Duration}
-use Rattle.model.specs.declared.Duration.the-variants.{Whole, Half, Quarter, Eighth, Sixteenth, ThirtySecond, SixtyFourth}
+use Rattle.model.specs.declared.Duration.the-variants.{Quarter}
 use Rattle.model.specs.declared.Tuplet.{Tuplet}
 use Rattle.model.specs.declared.Tuplet.the-variants.{NoTuplet, Ratio}
+use Rattle.model.specs.Kinds.{durationCode}
+use Rattle.bin.specs.Signed.{signed}
 use Rattle.format.specs.Text.{pick}
 use Rattle.format.specs.Prog.{Prog, ret, bind}
 use Rattle.format.specs.Fields.{u8, u32}
 use Rattle.beat.specs.declared.head.Head.{Head}
-use Rattle.beat.specs.Optional.{has, minus, optional}
-
--- the duration's own codes are -2, -1, 1, 2, 3 and 4; every other code is a quarter
-unfoldable pub durationOf : ℕ → Duration
-durationOf c =
-    pick (eqb c (minus 2)) Whole
-    (pick (eqb c (minus 1)) Half
-    (pick (eqb c 1) Eighth
-    (pick (eqb c 2) Sixteenth
-    (pick (eqb c 3) ThirtySecond
-    (pick (eqb c 4) SixtyFourth Quarter)))))
+use Rattle.beat.specs.Optional.{has, optional}
 
 -- tuplet 3 is over 2, 5 to 7 over 4, 9 to 13 over 8, others none
 unfoldable pub tupletOf : ℕ → Tuplet
@@ -36,8 +27,9 @@ status flags = optional (has flags 0x40) u8 0x02
 unfoldable pub tuplet : ℕ → Prog ℕ
 tuplet flags = optional (has flags 0x20) u32 0
 
+-- the duration's own codes are -2, -1, 1, 2, 3 and 4; every other code is a quarter
 unfoldable pub headOf : ℕ → ℕ → ℕ → ℕ → Head
-headOf flags status code n = record { flags = flags; kept = has status 0x02; duration = durationOf code; tuplet = tupletOf n }
+headOf flags status code n = record { flags = flags; kept = has status 0x02; duration = durationCode (signed 128 code); tuplet = tupletOf n }
 
 unfoldable pub noHead : Head
 noHead = record { flags = 0; kept = false; duration = Quarter; tuplet = NoTuplet }

@@ -1,5 +1,5 @@
 -- Flags, bytes below zero, and optional fields. Assumes nothing.
-use Prim.Native.Nat.{ℕ, _-_}
+use Prim.Native.Nat.{ℕ}
 use mathlib.Core.Bool.{Bool, not}
 use lib.Dec.{ltb, eqb}
 use lib.Bits.{bitAnd}
@@ -10,10 +10,6 @@ use Rattle.curve.specs.Held.{byteHalf}
 -- whether flags have a bit of the mask
 unfoldable pub has : (flags mask : ℕ) → Bool
 has flags mask = not (eqb (bitAnd flags mask) 0)
-
--- the byte that stands for n below zero
-abbrev pub minus : ℕ → ℕ
-minus n = 256 - n
 
 -- whether a byte, as a signed number, is 0 or more
 unfoldable pub notNegative : ℕ → Bool

@@ -27,34 +27,6 @@ pub(crate) const NO_HEAD: Head = Head {
     tuplet: Tuplet::NoTuplet,
 };
 
-// The codes of the durations but the quarter, in two's complement.
-const WHOLE: u8 = 0xfe;
-
-const HALF: u8 = 0xff;
-
-const EIGHTH: u8 = 1;
-
-const SIXTEENTH: u8 = 2;
-
-const THIRTY_SECOND: u8 = 3;
-
-const SIXTY_FOURTH: u8 = 4;
-
-// Every other code is a quarter.
-fn duration_of(code: u8) -> Duration
-    ensures { λ r. ⌜ r ≡ format.durationOf code ⌝ }
-{
-    match code {
-        WHOLE => Duration::Whole,
-        HALF => Duration::Half,
-        EIGHTH => Duration::Eighth,
-        SIXTEENTH => Duration::Sixteenth,
-        THIRTY_SECOND => Duration::ThirtySecond,
-        SIXTY_FOURTH => Duration::SixtyFourth,
-        _ => Duration::Quarter,
-    }
-}
-
 fn tuplet_of(actual: u32) -> Tuplet
     ensures { λ r. ⌜ r ≡ format.tupletOf actual ⌝ }
 {
@@ -72,7 +44,7 @@ fn head_of(flags: u8, status: u8, code: u8, actual: u32) -> Head
     Head {
         flags,
         kept: status & 0x02 != 0,
-        duration: duration_of(code),
+        duration: Duration::from_code(code),
         tuplet: tuplet_of(actual),
     }
 }

@@ -114,12 +114,6 @@ input221 =
     2 ∷ 145 ∷ 57 ∷ 139 ∷ 183 ∷ 66 ∷ 4 ∷ 255 ∷ 10 ∷ 46 ∷ 3 ∷ 4 ∷ 27 ∷ 111 ∷ 155 ∷ 72 ∷ 242 ∷ 5 ∷ 255 ∷ 2 ∷ 14 ∷ 37 ∷ 1 ∷
     203 ∷ 102 ∷ []
 
-pub as-the-oracle221 : summary (run (file scoring) input221 0)
-    ≡ 1529 ∷ 3 ∷ 1 ∷ 5 ∷ 16 ∷ 0 ∷ 2 ∷ 3 ∷ 1 ∷ 5 ∷ 16 ∷ 0 ∷ 3 ∷ 1 ∷ 0 ∷ 1 ∷ 0 ∷ 0 ∷ 0 ∷ 0 ∷ 0 ∷ 2 ∷ 1 ∷ 3 ∷ 7 ∷ 5 ∷ 0 ∷ 4 ∷
-    0 ∷ 1 ∷ []
-unfolding FormatText.blank FormatText.cutLen FormatText.leadLen FormatText.keepNext FormatText.keepLen FormatText.cut FormatText.trim FormatText.rangeOf FormatText.textOf FormatText.noText FormatProg.run FormatProg.bind FormatProg.turns FormatProg.whenLe FormatProg.whenEq FormatProg.whenBits FormatFields.u8 FormatFields.number FormatFields.skip FormatFields.words FormatFields.counted FormatFields.count FormatFields.stringOf FormatFields.stringPast FormatFields.fixedString FormatFields.fixedStringPast FormatFields.intByteStringUnused FormatFields.intByteStringUnusedPast FormatFields.intString FormatFields.intStringPast FormatFields.lessOne FormatFields.intByteString FormatFields.intByteStringPast BinSigned.signed BinSigned.unsigned BinSigned.lessOneWrapped CurveHeld.held CurveSlide.slideOf CurveLevel.noteLevel CurveLevel.chordOf CurveLevel.chordWith CurveLevel.chordLevel CurveLevel.levelAfter CurveKey.percussionKey CurveBend.heightOf CurveBend.pointOf CurveBend.finish CurveBend.larger CurveBend.curveHeight SongVersion.starts SongVersion.isFamily SongVersion.isDigit SongVersion.digitsLen SongVersion.digitsFrom SongVersion.short SongVersion.unplussed SongVersion.numbered SongVersion.versionOf SongVersion.accepted SongVersion.version SongInfo.names SongInfo.music SongInfo.composerOf SongInfo.credits SongInfo.notices SongInfo.noInfo SongInfo.info SongInfo.tripletFeel SongInfo.lyricTrack SongInfo.fromZero SongInfo.lyricLine SongInfo.noLine SongInfo.noLyrics SongInfo.fiveLines SongInfo.lyrics SongSetup.equalizer SongSetup.templates SongSetup.page SongSetup.tempoOf SongSetup.hideTempo SongSetup.octave SongSetup.tempo SongSetup.setup SongSetup.programOf SongSetup.channel SongSetup.noPort SongSetup.nextChannel SongSetup.port SongSetup.noPorts SongSetup.nextPort SongSetup.channelTable SongSetup.barNumber SongSetup.noDirections SongSetup.nextDirection SongSetup.nineteen SongSetup.directions SongHeader.notEmpty SongHeader.noCounts SongHeader.counts SongHeader.has SongHeader.commonTime SongHeader.powerOfTwo SongHeader.timeOf SongHeader.time SongHeader.repeatCount SongHeader.endingByte SongHeader.marker SongHeader.fifthsOf SongHeader.modeOf SongHeader.key SongHeader.marks SongHeader.beams SongHeader.tail SongHeader.endingOf SongHeader.passesOf SongHeader.endingNumber SongHeader.noHeader SongHeader.headerOf SongHeader.header SongTrack.noTunings SongTrack.nextTuning SongTrack.tunings SongTrack.noStrings SongTrack.strings SongTrack.numbered SongTrack.sound SongTrack.effect SongTrack.staff SongTrack.tablatureOf SongTrack.low SongTrack.clefOf SongTrack.programOf SongTrack.noTrack SongTrack.trackOf SongTrack.track BeatOptional.has BeatOptional.notNegative BeatOptional.optional BeatPoints.bendPoint BeatPoints.bendPoints BeatPoints.bend BeatPoints.whammy BeatPoints.word BeatPoints.pointsAt BeatHead.durationOf BeatHead.tupletOf BeatHead.status BeatHead.tuplet BeatHead.headOf BeatHead.noHead BeatHead.head BeatChord.diagram BeatChord.oldFrets BeatChord.oldChord BeatChord.earlyChord BeatChord.chord BeatChord.chordName BeatChord.beatText BeatEffects.moreFlags BeatEffects.tappingOf BeatEffects.noTapping BeatEffects.tappingEnd BeatEffects.tapping BeatEffects.tremoloBar BeatEffects.brushOf BeatEffects.brush BeatEffects.strokeOf BeatEffects.stroke BeatEffects.noEffects BeatEffects.effectsOf BeatEffects.effectsBy BeatEffects.beatEffects BeatMix.sign BeatMix.threeSigns BeatMix.mixSound BeatMix.tempoName BeatMix.duration BeatMix.threeDurations BeatMix.tempoEnd BeatMix.mixFlags BeatMix.wah BeatMix.mixStrings BeatMix.tempoOf BeatMix.noMix BeatMix.mixEnd BeatMix.anyGiven BeatMix.mixTempo BeatMix.mixTable BeatMix.mix BeatMarks.noteBend BeatMarks.graceOf BeatMarks.graceFlags BeatMarks.graceNote BeatMarks.grace BeatMarks.tremolo BeatMarks.slideFlag BeatMarks.slide BeatMarks.harmonicEnd BeatMarks.noHarmonic BeatMarks.harmonic BeatMarks.trill BeatMarks.noMarks BeatMarks.marksOf BeatMarks.marks BeatMarks.noNoteEffects BeatMarks.noteEffects BeatNote.frettedByte BeatNote.ownDuration BeatNote.dynamic BeatNote.leftHand BeatNote.noHands BeatNote.hands BeatNote.percent BeatNote.accidental BeatNote.readOf BeatNote.noteEnd BeatNote.noteBy BeatNote.note BeatNote.noNote BeatNotes.stringBit BeatNotes.stringNote BeatNotes.noNotes BeatNotes.notes BeatTail.ottavaOf BeatTail.tailByte BeatTail.tail BeatBeat.beatNotes BeatBeat.beatBy BeatBeat.beat BeatBeat.noBeat ScoreFile.song ScoreFile.voices ScoreFile.oneHeader ScoreFile.headers ScoreFile.tracks ScoreFile.voice ScoreFile.bar ScoreFile.bars ScoreFile.file ScoreSounding.soundingFrom ScoreSounding.sounding ScoreMembers.inOrder ScoreMembers.memberOf ScoreMembers.graceMember ScoreRows.noteMarks ScoreRows.beatMarks ScoreRows.marksOf ScoreRows.playedWith ScoreRows.restRow ScoreRows.chordRow ScoreRows.graceRow ScoreRows.rowsOf ScoreBars.flatIn ScoreBars.barOf ScoreLosses.headerLosses ScoreLosses.trackLosses ScoreLosses.readingLosses ScoreLosses.buildingLosses ScoreScore.begin ScoreScore.addHeader ScoreScore.addTrack ScoreScore.addBeat Count.ones Count.onesIn Count.trailingZeros
-as-the-oracle221 = refl
-
 -- input 218: FICHIER GUITAR PRO v3.00
 abbrev input218 : List ℕ
 input218 =
@@ -189,12 +183,6 @@ input218 =
     9 ∷ 82 ∷ 143 ∷ 141 ∷ 42 ∷ 192 ∷ 1 ∷ 0 ∷ 0 ∷ 0 ∷ 59 ∷ 0 ∷ 0 ∷ 0 ∷ 200 ∷ 0 ∷ 0 ∷ 0 ∷ 37 ∷ 8 ∷ 0 ∷ 104 ∷ 3 ∷ 238 ∷ 202 ∷
     4 ∷ 147 ∷ 0 ∷ 0 ∷ 126 ∷ 4 ∷ 8 ∷ 9 ∷ 40 ∷ 70 ∷ 243 ∷ 84 ∷ 157 ∷ 3 ∷ 0 ∷ 0 ∷ 0 ∷ 60 ∷ 0 ∷ 0 ∷ 0 ∷ 200 ∷ 0 ∷ 0 ∷ 0 ∷
     210 ∷ 45 ∷ 0 ∷ 0 ∷ 0 ∷ 79 ∷ 251 ∷ 255 ∷ 255 ∷ 103 ∷ 45 ∷ 0 ∷ 0 ∷ 0 ∷ 106 ∷ 0 ∷ 0 ∷ 0 ∷ 7 ∷ 4 ∷ 2 ∷ 4 ∷ 4 ∷ []
-
-pub as-the-oracle218 : summary (run (file scoring) input218 0)
-    ≡ 1513 ∷ 3 ∷ 2 ∷ 13 ∷ 75 ∷ 21 ∷ 0 ∷ 3 ∷ 2 ∷ 13 ∷ 75 ∷ 35 ∷ 0 ∷ 2 ∷ 3 ∷ 0 ∷ 0 ∷ 1 ∷ 1 ∷ 0 ∷ 0 ∷ 0 ∷ 0 ∷ 0 ∷ 0 ∷ 0 ∷ 3 ∷
-    2 ∷ 0 ∷ 1 ∷ []
-unfolding FormatText.blank FormatText.cutLen FormatText.leadLen FormatText.keepNext FormatText.keepLen FormatText.cut FormatText.trim FormatText.rangeOf FormatText.textOf FormatText.noText FormatProg.run FormatProg.bind FormatProg.turns FormatProg.whenLe FormatProg.whenEq FormatProg.whenBits FormatFields.u8 FormatFields.number FormatFields.skip FormatFields.words FormatFields.counted FormatFields.count FormatFields.stringOf FormatFields.stringPast FormatFields.fixedString FormatFields.fixedStringPast FormatFields.intByteStringUnused FormatFields.intByteStringUnusedPast FormatFields.intString FormatFields.intStringPast FormatFields.lessOne FormatFields.intByteString FormatFields.intByteStringPast BinSigned.signed BinSigned.unsigned BinSigned.lessOneWrapped CurveHeld.held CurveSlide.slideOf CurveLevel.noteLevel CurveLevel.chordOf CurveLevel.chordWith CurveLevel.chordLevel CurveLevel.levelAfter CurveKey.percussionKey CurveBend.heightOf CurveBend.pointOf CurveBend.finish CurveBend.larger CurveBend.curveHeight SongVersion.starts SongVersion.isFamily SongVersion.isDigit SongVersion.digitsLen SongVersion.digitsFrom SongVersion.short SongVersion.unplussed SongVersion.numbered SongVersion.versionOf SongVersion.accepted SongVersion.version SongInfo.names SongInfo.music SongInfo.composerOf SongInfo.credits SongInfo.notices SongInfo.noInfo SongInfo.info SongInfo.tripletFeel SongInfo.lyricTrack SongInfo.fromZero SongInfo.lyricLine SongInfo.noLine SongInfo.noLyrics SongInfo.fiveLines SongInfo.lyrics SongSetup.equalizer SongSetup.templates SongSetup.page SongSetup.tempoOf SongSetup.hideTempo SongSetup.octave SongSetup.tempo SongSetup.setup SongSetup.programOf SongSetup.channel SongSetup.noPort SongSetup.nextChannel SongSetup.port SongSetup.noPorts SongSetup.nextPort SongSetup.channelTable SongSetup.barNumber SongSetup.noDirections SongSetup.nextDirection SongSetup.nineteen SongSetup.directions SongHeader.notEmpty SongHeader.noCounts SongHeader.counts SongHeader.has SongHeader.commonTime SongHeader.powerOfTwo SongHeader.timeOf SongHeader.time SongHeader.repeatCount SongHeader.endingByte SongHeader.marker SongHeader.fifthsOf SongHeader.modeOf SongHeader.key SongHeader.marks SongHeader.beams SongHeader.tail SongHeader.endingOf SongHeader.passesOf SongHeader.endingNumber SongHeader.noHeader SongHeader.headerOf SongHeader.header SongTrack.noTunings SongTrack.nextTuning SongTrack.tunings SongTrack.noStrings SongTrack.strings SongTrack.numbered SongTrack.sound SongTrack.effect SongTrack.staff SongTrack.tablatureOf SongTrack.low SongTrack.clefOf SongTrack.programOf SongTrack.noTrack SongTrack.trackOf SongTrack.track BeatOptional.has BeatOptional.notNegative BeatOptional.optional BeatPoints.bendPoint BeatPoints.bendPoints BeatPoints.bend BeatPoints.whammy BeatPoints.word BeatPoints.pointsAt BeatHead.durationOf BeatHead.tupletOf BeatHead.status BeatHead.tuplet BeatHead.headOf BeatHead.noHead BeatHead.head BeatChord.diagram BeatChord.oldFrets BeatChord.oldChord BeatChord.earlyChord BeatChord.chord BeatChord.chordName BeatChord.beatText BeatEffects.moreFlags BeatEffects.tappingOf BeatEffects.noTapping BeatEffects.tappingEnd BeatEffects.tapping BeatEffects.tremoloBar BeatEffects.brushOf BeatEffects.brush BeatEffects.strokeOf BeatEffects.stroke BeatEffects.noEffects BeatEffects.effectsOf BeatEffects.effectsBy BeatEffects.beatEffects BeatMix.sign BeatMix.threeSigns BeatMix.mixSound BeatMix.tempoName BeatMix.duration BeatMix.threeDurations BeatMix.tempoEnd BeatMix.mixFlags BeatMix.wah BeatMix.mixStrings BeatMix.tempoOf BeatMix.noMix BeatMix.mixEnd BeatMix.anyGiven BeatMix.mixTempo BeatMix.mixTable BeatMix.mix BeatMarks.noteBend BeatMarks.graceOf BeatMarks.graceFlags BeatMarks.graceNote BeatMarks.grace BeatMarks.tremolo BeatMarks.slideFlag BeatMarks.slide BeatMarks.harmonicEnd BeatMarks.noHarmonic BeatMarks.harmonic BeatMarks.trill BeatMarks.noMarks BeatMarks.marksOf BeatMarks.marks BeatMarks.noNoteEffects BeatMarks.noteEffects BeatNote.frettedByte BeatNote.ownDuration BeatNote.dynamic BeatNote.leftHand BeatNote.noHands BeatNote.hands BeatNote.percent BeatNote.accidental BeatNote.readOf BeatNote.noteEnd BeatNote.noteBy BeatNote.note BeatNote.noNote BeatNotes.stringBit BeatNotes.stringNote BeatNotes.noNotes BeatNotes.notes BeatTail.ottavaOf BeatTail.tailByte BeatTail.tail BeatBeat.beatNotes BeatBeat.beatBy BeatBeat.beat BeatBeat.noBeat ScoreFile.song ScoreFile.voices ScoreFile.oneHeader ScoreFile.headers ScoreFile.tracks ScoreFile.voice ScoreFile.bar ScoreFile.bars ScoreFile.file ScoreSounding.soundingFrom ScoreSounding.sounding ScoreMembers.inOrder ScoreMembers.memberOf ScoreMembers.graceMember ScoreRows.noteMarks ScoreRows.beatMarks ScoreRows.marksOf ScoreRows.playedWith ScoreRows.restRow ScoreRows.chordRow ScoreRows.graceRow ScoreRows.rowsOf ScoreBars.flatIn ScoreBars.barOf ScoreLosses.headerLosses ScoreLosses.trackLosses ScoreLosses.readingLosses ScoreLosses.buildingLosses ScoreScore.begin ScoreScore.addHeader ScoreScore.addTrack ScoreScore.addBeat Count.ones Count.onesIn Count.trailingZeros
-as-the-oracle218 = refl
 
 -- input 196: FICHIER GUITAR PRO v5.00
 abbrev input196 : List ℕ
@@ -271,12 +259,6 @@ input196 =
     114 ∷ 144 ∷ 38 ∷ 254 ∷ 255 ∷ 255 ∷ 255 ∷ 127 ∷ 255 ∷ 255 ∷ 0 ∷ 0 ∷ 0 ∷ 128 ∷ 228 ∷ 60 ∷ 0 ∷ 0 ∷ 0 ∷ 211 ∷ 149 ∷ 8 ∷
     100 ∷ 120 ∷ 64 ∷ 0 ∷ 64 ∷ 2 ∷ 128 ∷ 5 ∷ 255 ∷ 2 ∷ 64 ∷ 0 ∷ 64 ∷ 0 ∷ 1 ∷ 0 ∷ 0 ∷ 0 ∷ 0 ∷ 2 ∷ 120 ∷ 64 ∷ 2 ∷ 0 ∷ 0 ∷
     192 ∷ 5 ∷ 255 ∷ 2 ∷ 64 ∷ 2 ∷ 64 ∷ 0 ∷ 162 ∷ 0 ∷ 0 ∷ 0 ∷ 0 ∷ 0 ∷ 0 ∷ 0 ∷ 0 ∷ []
-
-pub as-the-oracle196 : summary (run (file scoring) input196 0)
-    ≡ 1611 ∷ 3 ∷ 1 ∷ 4 ∷ 16 ∷ 0 ∷ 0 ∷ 3 ∷ 1 ∷ 4 ∷ 16 ∷ 0 ∷ 0 ∷ 0 ∷ 0 ∷ 0 ∷ 0 ∷ 0 ∷ 0 ∷ 1 ∷ 9 ∷ 2 ∷ 3 ∷ 1 ∷ 1 ∷ 0 ∷ 0 ∷ 1 ∷
-    2 ∷ 0 ∷ []
-unfolding FormatText.blank FormatText.cutLen FormatText.leadLen FormatText.keepNext FormatText.keepLen FormatText.cut FormatText.trim FormatText.rangeOf FormatText.textOf FormatText.noText FormatProg.run FormatProg.bind FormatProg.turns FormatProg.whenLe FormatProg.whenEq FormatProg.whenBits FormatFields.u8 FormatFields.number FormatFields.skip FormatFields.words FormatFields.counted FormatFields.count FormatFields.stringOf FormatFields.stringPast FormatFields.fixedString FormatFields.fixedStringPast FormatFields.intByteStringUnused FormatFields.intByteStringUnusedPast FormatFields.intString FormatFields.intStringPast FormatFields.lessOne FormatFields.intByteString FormatFields.intByteStringPast BinSigned.signed BinSigned.unsigned BinSigned.lessOneWrapped CurveHeld.held CurveSlide.slideOf CurveLevel.noteLevel CurveLevel.chordOf CurveLevel.chordWith CurveLevel.chordLevel CurveLevel.levelAfter CurveKey.percussionKey CurveBend.heightOf CurveBend.pointOf CurveBend.finish CurveBend.larger CurveBend.curveHeight SongVersion.starts SongVersion.isFamily SongVersion.isDigit SongVersion.digitsLen SongVersion.digitsFrom SongVersion.short SongVersion.unplussed SongVersion.numbered SongVersion.versionOf SongVersion.accepted SongVersion.version SongInfo.names SongInfo.music SongInfo.composerOf SongInfo.credits SongInfo.notices SongInfo.noInfo SongInfo.info SongInfo.tripletFeel SongInfo.lyricTrack SongInfo.fromZero SongInfo.lyricLine SongInfo.noLine SongInfo.noLyrics SongInfo.fiveLines SongInfo.lyrics SongSetup.equalizer SongSetup.templates SongSetup.page SongSetup.tempoOf SongSetup.hideTempo SongSetup.octave SongSetup.tempo SongSetup.setup SongSetup.programOf SongSetup.channel SongSetup.noPort SongSetup.nextChannel SongSetup.port SongSetup.noPorts SongSetup.nextPort SongSetup.channelTable SongSetup.barNumber SongSetup.noDirections SongSetup.nextDirection SongSetup.nineteen SongSetup.directions SongHeader.notEmpty SongHeader.noCounts SongHeader.counts SongHeader.has SongHeader.commonTime SongHeader.powerOfTwo SongHeader.timeOf SongHeader.time SongHeader.repeatCount SongHeader.endingByte SongHeader.marker SongHeader.fifthsOf SongHeader.modeOf SongHeader.key SongHeader.marks SongHeader.beams SongHeader.tail SongHeader.endingOf SongHeader.passesOf SongHeader.endingNumber SongHeader.noHeader SongHeader.headerOf SongHeader.header SongTrack.noTunings SongTrack.nextTuning SongTrack.tunings SongTrack.noStrings SongTrack.strings SongTrack.numbered SongTrack.sound SongTrack.effect SongTrack.staff SongTrack.tablatureOf SongTrack.low SongTrack.clefOf SongTrack.programOf SongTrack.noTrack SongTrack.trackOf SongTrack.track BeatOptional.has BeatOptional.notNegative BeatOptional.optional BeatPoints.bendPoint BeatPoints.bendPoints BeatPoints.bend BeatPoints.whammy BeatPoints.word BeatPoints.pointsAt BeatHead.durationOf BeatHead.tupletOf BeatHead.status BeatHead.tuplet BeatHead.headOf BeatHead.noHead BeatHead.head BeatChord.diagram BeatChord.oldFrets BeatChord.oldChord BeatChord.earlyChord BeatChord.chord BeatChord.chordName BeatChord.beatText BeatEffects.moreFlags BeatEffects.tappingOf BeatEffects.noTapping BeatEffects.tappingEnd BeatEffects.tapping BeatEffects.tremoloBar BeatEffects.brushOf BeatEffects.brush BeatEffects.strokeOf BeatEffects.stroke BeatEffects.noEffects BeatEffects.effectsOf BeatEffects.effectsBy BeatEffects.beatEffects BeatMix.sign BeatMix.threeSigns BeatMix.mixSound BeatMix.tempoName BeatMix.duration BeatMix.threeDurations BeatMix.tempoEnd BeatMix.mixFlags BeatMix.wah BeatMix.mixStrings BeatMix.tempoOf BeatMix.noMix BeatMix.mixEnd BeatMix.anyGiven BeatMix.mixTempo BeatMix.mixTable BeatMix.mix BeatMarks.noteBend BeatMarks.graceOf BeatMarks.graceFlags BeatMarks.graceNote BeatMarks.grace BeatMarks.tremolo BeatMarks.slideFlag BeatMarks.slide BeatMarks.harmonicEnd BeatMarks.noHarmonic BeatMarks.harmonic BeatMarks.trill BeatMarks.noMarks BeatMarks.marksOf BeatMarks.marks BeatMarks.noNoteEffects BeatMarks.noteEffects BeatNote.frettedByte BeatNote.ownDuration BeatNote.dynamic BeatNote.leftHand BeatNote.noHands BeatNote.hands BeatNote.percent BeatNote.accidental BeatNote.readOf BeatNote.noteEnd BeatNote.noteBy BeatNote.note BeatNote.noNote BeatNotes.stringBit BeatNotes.stringNote BeatNotes.noNotes BeatNotes.notes BeatTail.ottavaOf BeatTail.tailByte BeatTail.tail BeatBeat.beatNotes BeatBeat.beatBy BeatBeat.beat BeatBeat.noBeat ScoreFile.song ScoreFile.voices ScoreFile.oneHeader ScoreFile.headers ScoreFile.tracks ScoreFile.voice ScoreFile.bar ScoreFile.bars ScoreFile.file ScoreSounding.soundingFrom ScoreSounding.sounding ScoreMembers.inOrder ScoreMembers.memberOf ScoreMembers.graceMember ScoreRows.noteMarks ScoreRows.beatMarks ScoreRows.marksOf ScoreRows.playedWith ScoreRows.restRow ScoreRows.chordRow ScoreRows.graceRow ScoreRows.rowsOf ScoreBars.flatIn ScoreBars.barOf ScoreLosses.headerLosses ScoreLosses.trackLosses ScoreLosses.readingLosses ScoreLosses.buildingLosses ScoreScore.begin ScoreScore.addHeader ScoreScore.addTrack ScoreScore.addBeat Count.ones Count.onesIn Count.trailingZeros
-as-the-oracle196 = refl
 
 -- input 223: FICHIER GUITAR PRO v+005
 abbrev input223 : List ℕ
@@ -367,12 +349,6 @@ input223 =
     9 ∷ 29 ∷ 82 ∷ 133 ∷ 166 ∷ 210 ∷ 213 ∷ 35 ∷ 129 ∷ 205 ∷ 15 ∷ 70 ∷ 128 ∷ 119 ∷ 110 ∷ 80 ∷ 99 ∷ 79 ∷ 80 ∷ 209 ∷ 116 ∷
     82 ∷ 89 ∷ 254 ∷ 16 ∷ 13 ∷ 7 ∷ 8 ∷ 75 ∷ 82 ∷ 140 ∷ 49 ∷ 105 ∷ 119 ∷ 216 ∷ 101 ∷ 136 ∷ 133 ∷ 63 ∷ 210 ∷ []
 
-pub as-the-oracle223 : summary (run (file scoring) input223 0)
-    ≡ 1843 ∷ 3 ∷ 1 ∷ 16 ∷ 78 ∷ 0 ∷ 0 ∷ 3 ∷ 1 ∷ 16 ∷ 78 ∷ 0 ∷ 0 ∷ 0 ∷ 0 ∷ 0 ∷ 8 ∷ 0 ∷ 0 ∷ 1 ∷ 0 ∷ 0 ∷ 0 ∷ 0 ∷ 0 ∷ 3 ∷ 0 ∷
-    0 ∷ 0 ∷ 0 ∷ []
-unfolding FormatText.blank FormatText.cutLen FormatText.leadLen FormatText.keepNext FormatText.keepLen FormatText.cut FormatText.trim FormatText.rangeOf FormatText.textOf FormatText.noText FormatProg.run FormatProg.bind FormatProg.turns FormatProg.whenLe FormatProg.whenEq FormatProg.whenBits FormatFields.u8 FormatFields.number FormatFields.skip FormatFields.words FormatFields.counted FormatFields.count FormatFields.stringOf FormatFields.stringPast FormatFields.fixedString FormatFields.fixedStringPast FormatFields.intByteStringUnused FormatFields.intByteStringUnusedPast FormatFields.intString FormatFields.intStringPast FormatFields.lessOne FormatFields.intByteString FormatFields.intByteStringPast BinSigned.signed BinSigned.unsigned BinSigned.lessOneWrapped CurveHeld.held CurveSlide.slideOf CurveLevel.noteLevel CurveLevel.chordOf CurveLevel.chordWith CurveLevel.chordLevel CurveLevel.levelAfter CurveKey.percussionKey CurveBend.heightOf CurveBend.pointOf CurveBend.finish CurveBend.larger CurveBend.curveHeight SongVersion.starts SongVersion.isFamily SongVersion.isDigit SongVersion.digitsLen SongVersion.digitsFrom SongVersion.short SongVersion.unplussed SongVersion.numbered SongVersion.versionOf SongVersion.accepted SongVersion.version SongInfo.names SongInfo.music SongInfo.composerOf SongInfo.credits SongInfo.notices SongInfo.noInfo SongInfo.info SongInfo.tripletFeel SongInfo.lyricTrack SongInfo.fromZero SongInfo.lyricLine SongInfo.noLine SongInfo.noLyrics SongInfo.fiveLines SongInfo.lyrics SongSetup.equalizer SongSetup.templates SongSetup.page SongSetup.tempoOf SongSetup.hideTempo SongSetup.octave SongSetup.tempo SongSetup.setup SongSetup.programOf SongSetup.channel SongSetup.noPort SongSetup.nextChannel SongSetup.port SongSetup.noPorts SongSetup.nextPort SongSetup.channelTable SongSetup.barNumber SongSetup.noDirections SongSetup.nextDirection SongSetup.nineteen SongSetup.directions SongHeader.notEmpty SongHeader.noCounts SongHeader.counts SongHeader.has SongHeader.commonTime SongHeader.powerOfTwo SongHeader.timeOf SongHeader.time SongHeader.repeatCount SongHeader.endingByte SongHeader.marker SongHeader.fifthsOf SongHeader.modeOf SongHeader.key SongHeader.marks SongHeader.beams SongHeader.tail SongHeader.endingOf SongHeader.passesOf SongHeader.endingNumber SongHeader.noHeader SongHeader.headerOf SongHeader.header SongTrack.noTunings SongTrack.nextTuning SongTrack.tunings SongTrack.noStrings SongTrack.strings SongTrack.numbered SongTrack.sound SongTrack.effect SongTrack.staff SongTrack.tablatureOf SongTrack.low SongTrack.clefOf SongTrack.programOf SongTrack.noTrack SongTrack.trackOf SongTrack.track BeatOptional.has BeatOptional.notNegative BeatOptional.optional BeatPoints.bendPoint BeatPoints.bendPoints BeatPoints.bend BeatPoints.whammy BeatPoints.word BeatPoints.pointsAt BeatHead.durationOf BeatHead.tupletOf BeatHead.status BeatHead.tuplet BeatHead.headOf BeatHead.noHead BeatHead.head BeatChord.diagram BeatChord.oldFrets BeatChord.oldChord BeatChord.earlyChord BeatChord.chord BeatChord.chordName BeatChord.beatText BeatEffects.moreFlags BeatEffects.tappingOf BeatEffects.noTapping BeatEffects.tappingEnd BeatEffects.tapping BeatEffects.tremoloBar BeatEffects.brushOf BeatEffects.brush BeatEffects.strokeOf BeatEffects.stroke BeatEffects.noEffects BeatEffects.effectsOf BeatEffects.effectsBy BeatEffects.beatEffects BeatMix.sign BeatMix.threeSigns BeatMix.mixSound BeatMix.tempoName BeatMix.duration BeatMix.threeDurations BeatMix.tempoEnd BeatMix.mixFlags BeatMix.wah BeatMix.mixStrings BeatMix.tempoOf BeatMix.noMix BeatMix.mixEnd BeatMix.anyGiven BeatMix.mixTempo BeatMix.mixTable BeatMix.mix BeatMarks.noteBend BeatMarks.graceOf BeatMarks.graceFlags BeatMarks.graceNote BeatMarks.grace BeatMarks.tremolo BeatMarks.slideFlag BeatMarks.slide BeatMarks.harmonicEnd BeatMarks.noHarmonic BeatMarks.harmonic BeatMarks.trill BeatMarks.noMarks BeatMarks.marksOf BeatMarks.marks BeatMarks.noNoteEffects BeatMarks.noteEffects BeatNote.frettedByte BeatNote.ownDuration BeatNote.dynamic BeatNote.leftHand BeatNote.noHands BeatNote.hands BeatNote.percent BeatNote.accidental BeatNote.readOf BeatNote.noteEnd BeatNote.noteBy BeatNote.note BeatNote.noNote BeatNotes.stringBit BeatNotes.stringNote BeatNotes.noNotes BeatNotes.notes BeatTail.ottavaOf BeatTail.tailByte BeatTail.tail BeatBeat.beatNotes BeatBeat.beatBy BeatBeat.beat BeatBeat.noBeat ScoreFile.song ScoreFile.voices ScoreFile.oneHeader ScoreFile.headers ScoreFile.tracks ScoreFile.voice ScoreFile.bar ScoreFile.bars ScoreFile.file ScoreSounding.soundingFrom ScoreSounding.sounding ScoreMembers.inOrder ScoreMembers.memberOf ScoreMembers.graceMember ScoreRows.noteMarks ScoreRows.beatMarks ScoreRows.marksOf ScoreRows.playedWith ScoreRows.restRow ScoreRows.chordRow ScoreRows.graceRow ScoreRows.rowsOf ScoreBars.flatIn ScoreBars.barOf ScoreLosses.headerLosses ScoreLosses.trackLosses ScoreLosses.readingLosses ScoreLosses.buildingLosses ScoreScore.begin ScoreScore.addHeader ScoreScore.addTrack ScoreScore.addBeat Count.ones Count.onesIn Count.trailingZeros
-as-the-oracle223 = refl
-
 -- input 64: FICHIER GUITAR PRO v2.10
 abbrev input64 : List ℕ
 input64 =
@@ -411,12 +387,6 @@ input64 =
     0 ∷ 0 ∷ 0 ∷ 0 ∷ 0 ∷ 0 ∷ 0 ∷ 0 ∷ 0 ∷ 0 ∷ 0 ∷ 0 ∷ 0 ∷ 0 ∷ 0 ∷ 0 ∷ 0 ∷ 0 ∷ 0 ∷ 0 ∷ 0 ∷ 0 ∷ 0 ∷ 0 ∷ 0 ∷ 0 ∷ 0 ∷ 0 ∷ 0 ∷
     0 ∷ 0 ∷ 0 ∷ 0 ∷ 0 ∷ 0 ∷ 0 ∷ 0 ∷ 0 ∷ 0 ∷ 0 ∷ 0 ∷ 0 ∷ 0 ∷ 0 ∷ 0 ∷ 0 ∷ 0 ∷ 0 ∷ 0 ∷ 4 ∷ 0 ∷ 0 ∷ 0 ∷ 2 ∷ 0 ∷ 0 ∷ 0 ∷ 0 ∷
     0 ∷ 0 ∷ 0 ∷ 0 ∷ 0 ∷ 0 ∷ 0 ∷ 25 ∷ 0 ∷ 0 ∷ 0 ∷ 0 ∷ 0 ∷ 0 ∷ 0 ∷ 0 ∷ 0 ∷ 0 ∷ 0 ∷ []
-
-pub as-the-oracle64 : summary (run (file scoring) input64 0)
-    ≡ 963 ∷ 1 ∷ 1 ∷ 0 ∷ 0 ∷ 0 ∷ 0 ∷ 1 ∷ 1 ∷ 0 ∷ 0 ∷ 0 ∷ 0 ∷ 0 ∷ 0 ∷ 0 ∷ 0 ∷ 0 ∷ 0 ∷ 0 ∷ 0 ∷ 0 ∷ 0 ∷ 0 ∷ 0 ∷ 0 ∷ 0 ∷ 0 ∷
-    0 ∷ 0 ∷ []
-unfolding FormatText.blank FormatText.cutLen FormatText.leadLen FormatText.keepNext FormatText.keepLen FormatText.cut FormatText.trim FormatText.rangeOf FormatText.textOf FormatText.noText FormatProg.run FormatProg.bind FormatProg.turns FormatProg.whenLe FormatProg.whenEq FormatProg.whenBits FormatFields.u8 FormatFields.number FormatFields.skip FormatFields.words FormatFields.counted FormatFields.count FormatFields.stringOf FormatFields.stringPast FormatFields.fixedString FormatFields.fixedStringPast FormatFields.intByteStringUnused FormatFields.intByteStringUnusedPast FormatFields.intString FormatFields.intStringPast FormatFields.lessOne FormatFields.intByteString FormatFields.intByteStringPast BinSigned.signed BinSigned.unsigned BinSigned.lessOneWrapped CurveHeld.held CurveSlide.slideOf CurveLevel.noteLevel CurveLevel.chordOf CurveLevel.chordWith CurveLevel.chordLevel CurveLevel.levelAfter CurveKey.percussionKey CurveBend.heightOf CurveBend.pointOf CurveBend.finish CurveBend.larger CurveBend.curveHeight SongVersion.starts SongVersion.isFamily SongVersion.isDigit SongVersion.digitsLen SongVersion.digitsFrom SongVersion.short SongVersion.unplussed SongVersion.numbered SongVersion.versionOf SongVersion.accepted SongVersion.version SongInfo.names SongInfo.music SongInfo.composerOf SongInfo.credits SongInfo.notices SongInfo.noInfo SongInfo.info SongInfo.tripletFeel SongInfo.lyricTrack SongInfo.fromZero SongInfo.lyricLine SongInfo.noLine SongInfo.noLyrics SongInfo.fiveLines SongInfo.lyrics SongSetup.equalizer SongSetup.templates SongSetup.page SongSetup.tempoOf SongSetup.hideTempo SongSetup.octave SongSetup.tempo SongSetup.setup SongSetup.programOf SongSetup.channel SongSetup.noPort SongSetup.nextChannel SongSetup.port SongSetup.noPorts SongSetup.nextPort SongSetup.channelTable SongSetup.barNumber SongSetup.noDirections SongSetup.nextDirection SongSetup.nineteen SongSetup.directions SongHeader.notEmpty SongHeader.noCounts SongHeader.counts SongHeader.has SongHeader.commonTime SongHeader.powerOfTwo SongHeader.timeOf SongHeader.time SongHeader.repeatCount SongHeader.endingByte SongHeader.marker SongHeader.fifthsOf SongHeader.modeOf SongHeader.key SongHeader.marks SongHeader.beams SongHeader.tail SongHeader.endingOf SongHeader.passesOf SongHeader.endingNumber SongHeader.noHeader SongHeader.headerOf SongHeader.header SongTrack.noTunings SongTrack.nextTuning SongTrack.tunings SongTrack.noStrings SongTrack.strings SongTrack.numbered SongTrack.sound SongTrack.effect SongTrack.staff SongTrack.tablatureOf SongTrack.low SongTrack.clefOf SongTrack.programOf SongTrack.noTrack SongTrack.trackOf SongTrack.track BeatOptional.has BeatOptional.notNegative BeatOptional.optional BeatPoints.bendPoint BeatPoints.bendPoints BeatPoints.bend BeatPoints.whammy BeatPoints.word BeatPoints.pointsAt BeatHead.durationOf BeatHead.tupletOf BeatHead.status BeatHead.tuplet BeatHead.headOf BeatHead.noHead BeatHead.head BeatChord.diagram BeatChord.oldFrets BeatChord.oldChord BeatChord.earlyChord BeatChord.chord BeatChord.chordName BeatChord.beatText BeatEffects.moreFlags BeatEffects.tappingOf BeatEffects.noTapping BeatEffects.tappingEnd BeatEffects.tapping BeatEffects.tremoloBar BeatEffects.brushOf BeatEffects.brush BeatEffects.strokeOf BeatEffects.stroke BeatEffects.noEffects BeatEffects.effectsOf BeatEffects.effectsBy BeatEffects.beatEffects BeatMix.sign BeatMix.threeSigns BeatMix.mixSound BeatMix.tempoName BeatMix.duration BeatMix.threeDurations BeatMix.tempoEnd BeatMix.mixFlags BeatMix.wah BeatMix.mixStrings BeatMix.tempoOf BeatMix.noMix BeatMix.mixEnd BeatMix.anyGiven BeatMix.mixTempo BeatMix.mixTable BeatMix.mix BeatMarks.noteBend BeatMarks.graceOf BeatMarks.graceFlags BeatMarks.graceNote BeatMarks.grace BeatMarks.tremolo BeatMarks.slideFlag BeatMarks.slide BeatMarks.harmonicEnd BeatMarks.noHarmonic BeatMarks.harmonic BeatMarks.trill BeatMarks.noMarks BeatMarks.marksOf BeatMarks.marks BeatMarks.noNoteEffects BeatMarks.noteEffects BeatNote.frettedByte BeatNote.ownDuration BeatNote.dynamic BeatNote.leftHand BeatNote.noHands BeatNote.hands BeatNote.percent BeatNote.accidental BeatNote.readOf BeatNote.noteEnd BeatNote.noteBy BeatNote.note BeatNote.noNote BeatNotes.stringBit BeatNotes.stringNote BeatNotes.noNotes BeatNotes.notes BeatTail.ottavaOf BeatTail.tailByte BeatTail.tail BeatBeat.beatNotes BeatBeat.beatBy BeatBeat.beat BeatBeat.noBeat ScoreFile.song ScoreFile.voices ScoreFile.oneHeader ScoreFile.headers ScoreFile.tracks ScoreFile.voice ScoreFile.bar ScoreFile.bars ScoreFile.file ScoreSounding.soundingFrom ScoreSounding.sounding ScoreMembers.inOrder ScoreMembers.memberOf ScoreMembers.graceMember ScoreRows.noteMarks ScoreRows.beatMarks ScoreRows.marksOf ScoreRows.playedWith ScoreRows.restRow ScoreRows.chordRow ScoreRows.graceRow ScoreRows.rowsOf ScoreBars.flatIn ScoreBars.barOf ScoreLosses.headerLosses ScoreLosses.trackLosses ScoreLosses.readingLosses ScoreLosses.buildingLosses ScoreScore.begin ScoreScore.addHeader ScoreScore.addTrack ScoreScore.addBeat Count.ones Count.onesIn Count.trailingZeros
-as-the-oracle64 = refl
 
 -- input 217: FICHIER GUITAR PRO v3.0
 abbrev input217 : List ℕ
@@ -477,8 +447,26 @@ input217 =
     1 ∷ 198 ∷ 8 ∷ 6 ∷ 104 ∷ 2 ∷ 4 ∷ 6 ∷ 0 ∷ 0 ∷ 0 ∷ 32 ∷ 3 ∷ 178 ∷ 130 ∷ 159 ∷ 223 ∷ 77 ∷ 8 ∷ 6 ∷ 8 ∷ 22 ∷ 12 ∷ 50 ∷ 1 ∷
     219 ∷ 8 ∷ 6 ∷ 8 ∷ 194 ∷ 0 ∷ 0 ∷ 0 ∷ 0 ∷ 0 ∷ 0 ∷ 0 ∷ 0 ∷ []
 
-pub as-the-oracle217 : summary (run (file scoring) input217 0)
-    ≡ 1219 ∷ 2 ∷ 2 ∷ 6 ∷ 14 ∷ 0 ∷ 0 ∷ 2 ∷ 2 ∷ 6 ∷ 14 ∷ 0 ∷ 0 ∷ 1 ∷ 1 ∷ 0 ∷ 0 ∷ 0 ∷ 0 ∷ 0 ∷ 0 ∷ 0 ∷ 0 ∷ 0 ∷ 0 ∷ 0 ∷ 2 ∷ 0 ∷
-    0 ∷ 0 ∷ []
-unfolding FormatText.blank FormatText.cutLen FormatText.leadLen FormatText.keepNext FormatText.keepLen FormatText.cut FormatText.trim FormatText.rangeOf FormatText.textOf FormatText.noText FormatProg.run FormatProg.bind FormatProg.turns FormatProg.whenLe FormatProg.whenEq FormatProg.whenBits FormatFields.u8 FormatFields.number FormatFields.skip FormatFields.words FormatFields.counted FormatFields.count FormatFields.stringOf FormatFields.stringPast FormatFields.fixedString FormatFields.fixedStringPast FormatFields.intByteStringUnused FormatFields.intByteStringUnusedPast FormatFields.intString FormatFields.intStringPast FormatFields.lessOne FormatFields.intByteString FormatFields.intByteStringPast BinSigned.signed BinSigned.unsigned BinSigned.lessOneWrapped CurveHeld.held CurveSlide.slideOf CurveLevel.noteLevel CurveLevel.chordOf CurveLevel.chordWith CurveLevel.chordLevel CurveLevel.levelAfter CurveKey.percussionKey CurveBend.heightOf CurveBend.pointOf CurveBend.finish CurveBend.larger CurveBend.curveHeight SongVersion.starts SongVersion.isFamily SongVersion.isDigit SongVersion.digitsLen SongVersion.digitsFrom SongVersion.short SongVersion.unplussed SongVersion.numbered SongVersion.versionOf SongVersion.accepted SongVersion.version SongInfo.names SongInfo.music SongInfo.composerOf SongInfo.credits SongInfo.notices SongInfo.noInfo SongInfo.info SongInfo.tripletFeel SongInfo.lyricTrack SongInfo.fromZero SongInfo.lyricLine SongInfo.noLine SongInfo.noLyrics SongInfo.fiveLines SongInfo.lyrics SongSetup.equalizer SongSetup.templates SongSetup.page SongSetup.tempoOf SongSetup.hideTempo SongSetup.octave SongSetup.tempo SongSetup.setup SongSetup.programOf SongSetup.channel SongSetup.noPort SongSetup.nextChannel SongSetup.port SongSetup.noPorts SongSetup.nextPort SongSetup.channelTable SongSetup.barNumber SongSetup.noDirections SongSetup.nextDirection SongSetup.nineteen SongSetup.directions SongHeader.notEmpty SongHeader.noCounts SongHeader.counts SongHeader.has SongHeader.commonTime SongHeader.powerOfTwo SongHeader.timeOf SongHeader.time SongHeader.repeatCount SongHeader.endingByte SongHeader.marker SongHeader.fifthsOf SongHeader.modeOf SongHeader.key SongHeader.marks SongHeader.beams SongHeader.tail SongHeader.endingOf SongHeader.passesOf SongHeader.endingNumber SongHeader.noHeader SongHeader.headerOf SongHeader.header SongTrack.noTunings SongTrack.nextTuning SongTrack.tunings SongTrack.noStrings SongTrack.strings SongTrack.numbered SongTrack.sound SongTrack.effect SongTrack.staff SongTrack.tablatureOf SongTrack.low SongTrack.clefOf SongTrack.programOf SongTrack.noTrack SongTrack.trackOf SongTrack.track BeatOptional.has BeatOptional.notNegative BeatOptional.optional BeatPoints.bendPoint BeatPoints.bendPoints BeatPoints.bend BeatPoints.whammy BeatPoints.word BeatPoints.pointsAt BeatHead.durationOf BeatHead.tupletOf BeatHead.status BeatHead.tuplet BeatHead.headOf BeatHead.noHead BeatHead.head BeatChord.diagram BeatChord.oldFrets BeatChord.oldChord BeatChord.earlyChord BeatChord.chord BeatChord.chordName BeatChord.beatText BeatEffects.moreFlags BeatEffects.tappingOf BeatEffects.noTapping BeatEffects.tappingEnd BeatEffects.tapping BeatEffects.tremoloBar BeatEffects.brushOf BeatEffects.brush BeatEffects.strokeOf BeatEffects.stroke BeatEffects.noEffects BeatEffects.effectsOf BeatEffects.effectsBy BeatEffects.beatEffects BeatMix.sign BeatMix.threeSigns BeatMix.mixSound BeatMix.tempoName BeatMix.duration BeatMix.threeDurations BeatMix.tempoEnd BeatMix.mixFlags BeatMix.wah BeatMix.mixStrings BeatMix.tempoOf BeatMix.noMix BeatMix.mixEnd BeatMix.anyGiven BeatMix.mixTempo BeatMix.mixTable BeatMix.mix BeatMarks.noteBend BeatMarks.graceOf BeatMarks.graceFlags BeatMarks.graceNote BeatMarks.grace BeatMarks.tremolo BeatMarks.slideFlag BeatMarks.slide BeatMarks.harmonicEnd BeatMarks.noHarmonic BeatMarks.harmonic BeatMarks.trill BeatMarks.noMarks BeatMarks.marksOf BeatMarks.marks BeatMarks.noNoteEffects BeatMarks.noteEffects BeatNote.frettedByte BeatNote.ownDuration BeatNote.dynamic BeatNote.leftHand BeatNote.noHands BeatNote.hands BeatNote.percent BeatNote.accidental BeatNote.readOf BeatNote.noteEnd BeatNote.noteBy BeatNote.note BeatNote.noNote BeatNotes.stringBit BeatNotes.stringNote BeatNotes.noNotes BeatNotes.notes BeatTail.ottavaOf BeatTail.tailByte BeatTail.tail BeatBeat.beatNotes BeatBeat.beatBy BeatBeat.beat BeatBeat.noBeat ScoreFile.song ScoreFile.voices ScoreFile.oneHeader ScoreFile.headers ScoreFile.tracks ScoreFile.voice ScoreFile.bar ScoreFile.bars ScoreFile.file ScoreSounding.soundingFrom ScoreSounding.sounding ScoreMembers.inOrder ScoreMembers.memberOf ScoreMembers.graceMember ScoreRows.noteMarks ScoreRows.beatMarks ScoreRows.marksOf ScoreRows.playedWith ScoreRows.restRow ScoreRows.chordRow ScoreRows.graceRow ScoreRows.rowsOf ScoreBars.flatIn ScoreBars.barOf ScoreLosses.headerLosses ScoreLosses.trackLosses ScoreLosses.readingLosses ScoreLosses.buildingLosses ScoreScore.begin ScoreScore.addHeader ScoreScore.addTrack ScoreScore.addBeat Count.ones Count.onesIn Count.trailingZeros
-as-the-oracle217 = refl
+pub record AsTheOracle : Type 0 where
+  pub of221 : summary (run (file scoring) input221 0)
+      ≡ 1529 ∷ 3 ∷ 1 ∷ 5 ∷ 16 ∷ 0 ∷ 2 ∷ 3 ∷ 1 ∷ 5 ∷ 16 ∷ 0 ∷ 3 ∷ 1 ∷ 0 ∷ 1 ∷ 0 ∷ 0 ∷ 0 ∷ 0 ∷ 0 ∷ 2 ∷ 1 ∷ 3 ∷ 7 ∷ 5 ∷ 0 ∷ 4 ∷
+      0 ∷ 1 ∷ []
+  pub of218 : summary (run (file scoring) input218 0)
+      ≡ 1513 ∷ 3 ∷ 2 ∷ 13 ∷ 75 ∷ 21 ∷ 0 ∷ 3 ∷ 2 ∷ 13 ∷ 75 ∷ 35 ∷ 0 ∷ 2 ∷ 3 ∷ 0 ∷ 0 ∷ 1 ∷ 1 ∷ 0 ∷ 0 ∷ 0 ∷ 0 ∷ 0 ∷ 0 ∷ 0 ∷ 3 ∷
+      2 ∷ 0 ∷ 1 ∷ []
+  pub of196 : summary (run (file scoring) input196 0)
+      ≡ 1611 ∷ 3 ∷ 1 ∷ 4 ∷ 16 ∷ 0 ∷ 0 ∷ 3 ∷ 1 ∷ 4 ∷ 16 ∷ 0 ∷ 0 ∷ 0 ∷ 0 ∷ 0 ∷ 0 ∷ 0 ∷ 0 ∷ 1 ∷ 9 ∷ 2 ∷ 3 ∷ 1 ∷ 1 ∷ 0 ∷ 0 ∷ 1 ∷
+      2 ∷ 0 ∷ []
+  pub of223 : summary (run (file scoring) input223 0)
+      ≡ 1843 ∷ 3 ∷ 1 ∷ 16 ∷ 78 ∷ 0 ∷ 0 ∷ 3 ∷ 1 ∷ 16 ∷ 78 ∷ 0 ∷ 0 ∷ 0 ∷ 0 ∷ 0 ∷ 8 ∷ 0 ∷ 0 ∷ 1 ∷ 0 ∷ 0 ∷ 0 ∷ 0 ∷ 0 ∷ 3 ∷ 0 ∷
+      0 ∷ 0 ∷ 0 ∷ []
+  pub of64 : summary (run (file scoring) input64 0)
+      ≡ 963 ∷ 1 ∷ 1 ∷ 0 ∷ 0 ∷ 0 ∷ 0 ∷ 1 ∷ 1 ∷ 0 ∷ 0 ∷ 0 ∷ 0 ∷ 0 ∷ 0 ∷ 0 ∷ 0 ∷ 0 ∷ 0 ∷ 0 ∷ 0 ∷ 0 ∷ 0 ∷ 0 ∷ 0 ∷ 0 ∷ 0 ∷ 0 ∷
+      0 ∷ 0 ∷ []
+  pub of217 : summary (run (file scoring) input217 0)
+      ≡ 1219 ∷ 2 ∷ 2 ∷ 6 ∷ 14 ∷ 0 ∷ 0 ∷ 2 ∷ 2 ∷ 6 ∷ 14 ∷ 0 ∷ 0 ∷ 1 ∷ 1 ∷ 0 ∷ 0 ∷ 0 ∷ 0 ∷ 0 ∷ 0 ∷ 0 ∷ 0 ∷ 0 ∷ 0 ∷ 0 ∷ 2 ∷ 0 ∷
+      0 ∷ 0 ∷ []
+
+pub as-the-oracle : AsTheOracle
+unfolding FormatText.blank FormatText.cutLen FormatText.leadLen FormatText.keepNext FormatText.keepLen FormatText.cut FormatText.trim FormatText.rangeOf FormatText.textOf FormatText.noText FormatProg.run FormatProg.bind FormatProg.turns FormatProg.whenLe FormatProg.whenEq FormatProg.whenBits FormatFields.u8 FormatFields.number FormatFields.skip FormatFields.words FormatFields.counted FormatFields.count FormatFields.stringOf FormatFields.stringPast FormatFields.fixedString FormatFields.fixedStringPast FormatFields.intByteStringUnused FormatFields.intByteStringUnusedPast FormatFields.intString FormatFields.intStringPast FormatFields.lessOne FormatFields.intByteString FormatFields.intByteStringPast BinSigned.signed BinSigned.unsigned BinSigned.lessOneWrapped CurveHeld.held CurveSlide.slideOf CurveLevel.noteLevel CurveLevel.chordOf CurveLevel.chordWith CurveLevel.chordLevel CurveLevel.levelAfter CurveKey.percussionKey CurveBend.heightOf CurveBend.pointOf CurveBend.finish CurveBend.larger CurveBend.curveHeight SongVersion.starts SongVersion.isFamily SongVersion.isDigit SongVersion.digitsLen SongVersion.digitsFrom SongVersion.short SongVersion.unplussed SongVersion.numbered SongVersion.versionOf SongVersion.accepted SongVersion.version SongInfo.names SongInfo.music SongInfo.composerOf SongInfo.credits SongInfo.notices SongInfo.noInfo SongInfo.info SongInfo.tripletFeel SongInfo.lyricTrack SongInfo.fromZero SongInfo.lyricLine SongInfo.noLine SongInfo.noLyrics SongInfo.fiveLines SongInfo.lyrics SongSetup.equalizer SongSetup.templates SongSetup.page SongSetup.tempoOf SongSetup.hideTempo SongSetup.octave SongSetup.tempo SongSetup.setup SongSetup.programOf SongSetup.channel SongSetup.noPort SongSetup.nextChannel SongSetup.port SongSetup.noPorts SongSetup.nextPort SongSetup.channelTable SongSetup.barNumber SongSetup.noDirections SongSetup.nextDirection SongSetup.nineteen SongSetup.directions SongHeader.notEmpty SongHeader.noCounts SongHeader.counts SongHeader.has SongHeader.commonTime SongHeader.powerOfTwo SongHeader.timeOf SongHeader.time SongHeader.repeatCount SongHeader.endingByte SongHeader.marker SongHeader.fifthsOf SongHeader.modeOf SongHeader.key SongHeader.marks SongHeader.beams SongHeader.tail SongHeader.endingOf SongHeader.passesOf SongHeader.endingNumber SongHeader.noHeader SongHeader.headerOf SongHeader.header SongTrack.noTunings SongTrack.nextTuning SongTrack.tunings SongTrack.noStrings SongTrack.strings SongTrack.numbered SongTrack.sound SongTrack.effect SongTrack.staff SongTrack.tablatureOf SongTrack.low SongTrack.clefOf SongTrack.programOf SongTrack.noTrack SongTrack.trackOf SongTrack.track BeatOptional.has BeatOptional.notNegative BeatOptional.optional BeatPoints.bendPoint BeatPoints.bendPoints BeatPoints.bend BeatPoints.whammy BeatPoints.word BeatPoints.pointsAt BeatHead.tupletOf BeatHead.status BeatHead.tuplet BeatHead.headOf BeatHead.noHead BeatHead.head BeatChord.diagram BeatChord.oldFrets BeatChord.oldChord BeatChord.earlyChord BeatChord.chord BeatChord.chordName BeatChord.beatText BeatEffects.moreFlags BeatEffects.tappingOf BeatEffects.noTapping BeatEffects.tappingEnd BeatEffects.tapping BeatEffects.tremoloBar BeatEffects.brushOf BeatEffects.brush BeatEffects.strokeOf BeatEffects.stroke BeatEffects.noEffects BeatEffects.effectsOf BeatEffects.effectsBy BeatEffects.beatEffects BeatMix.sign BeatMix.threeSigns BeatMix.mixSound BeatMix.tempoName BeatMix.duration BeatMix.threeDurations BeatMix.tempoEnd BeatMix.mixFlags BeatMix.wah BeatMix.mixStrings BeatMix.tempoOf BeatMix.noMix BeatMix.mixEnd BeatMix.anyGiven BeatMix.mixTempo BeatMix.mixTable BeatMix.mix BeatMarks.noteBend BeatMarks.graceOf BeatMarks.graceFlags BeatMarks.graceNote BeatMarks.grace BeatMarks.tremolo BeatMarks.slideFlag BeatMarks.slide BeatMarks.harmonicEnd BeatMarks.noHarmonic BeatMarks.harmonic BeatMarks.trill BeatMarks.noMarks BeatMarks.marksOf BeatMarks.marks BeatMarks.noNoteEffects BeatMarks.noteEffects BeatNote.frettedByte BeatNote.ownDuration BeatNote.dynamic BeatNote.leftHand BeatNote.noHands BeatNote.hands BeatNote.percent BeatNote.accidental BeatNote.readOf BeatNote.noteEnd BeatNote.noteBy BeatNote.note BeatNote.noNote BeatNotes.stringBit BeatNotes.stringNote BeatNotes.noNotes BeatNotes.notes BeatTail.ottavaOf BeatTail.tailByte BeatTail.tail BeatBeat.beatNotes BeatBeat.beatBy BeatBeat.beat BeatBeat.noBeat ScoreFile.song ScoreFile.voices ScoreFile.oneHeader ScoreFile.headers ScoreFile.tracks ScoreFile.voice ScoreFile.bar ScoreFile.bars ScoreFile.file ScoreSounding.soundingFrom ScoreSounding.sounding ScoreMembers.inOrder ScoreMembers.memberOf ScoreMembers.graceMember ScoreRows.noteMarks ScoreRows.beatMarks ScoreRows.marksOf ScoreRows.playedWith ScoreRows.restRow ScoreRows.chordRow ScoreRows.graceRow ScoreRows.rowsOf ScoreBars.flatIn ScoreBars.barOf ScoreLosses.headerLosses ScoreLosses.trackLosses ScoreLosses.readingLosses ScoreLosses.buildingLosses ScoreScore.begin ScoreScore.addHeader ScoreScore.addTrack ScoreScore.addBeat Count.ones Count.onesIn Count.trailingZeros
+as-the-oracle = record { of221 = refl; of218 = refl; of196 = refl; of223 = refl; of64 = refl; of217 = refl }

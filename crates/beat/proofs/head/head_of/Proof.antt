@@ -12,4 +12,4 @@ head-of-spec =
     (tie.spec
     (λ c κs. search needs)
     (λ c κs. search needs)
-    (λ c. rw (c .before .duration-of .ensures, c .tuplet-of .ensures)))
+    (λ c. rw (c .before .from-code .ensures, c .tuplet-of .ensures)))
