@@ -62,7 +62,7 @@ const NO_HANDS: Hands = Hands {
     right_lost: false,
 };
 
-pub(crate) const NO_NOTE: Note = Note {
+pub const NO_NOTE: Note = Note {
     read: NoteRead {
         fret: 0,
         tie: false,

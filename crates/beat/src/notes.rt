@@ -16,7 +16,7 @@ pub struct NotesRead {
 pub(crate) const NO_NOTES: [Note; 7] = [crate::note::NO_NOTE; 7];
 
 // From bit 6 down to 0.
-fn string_bit(i: usize) -> u8
+pub fn string_bit(i: usize) -> u8
     ensures { λ r. ⌜ r ≡ format.stringBit i ⌝ }
 {
     match i {

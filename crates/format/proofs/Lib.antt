@@ -6,3 +6,4 @@ pub mod Fits
 pub mod Alike
 pub mod Outcome
 pub mod Text
+pub mod Yields

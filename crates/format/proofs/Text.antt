@@ -18,6 +18,7 @@ use Rattle.format.specs.Text.{Text, pick, blank, cutLen, leadLen, keepLe
 use Rattle.format.specs.Prog.{Prog, ret}
 use Rattle.format.specs.Place.{Gives}
 use Rattle.format.specs.Fields.{words}
+use Rattle.format.specs.Yields.{Inside, OfFile}
 use Rattle.format.proofs.Run.{part-take, text-goes, text-ends, run-ret}
 use Rattle.format.proofs.Rules.{starting, still, returned-at, handing-none}
 use Rattle.format.proofs.Fits.{slice-next, slice-split}
@@ -190,3 +191,46 @@ words-ends {s} {from} {at} e n h = handing-none (none-in s) (starting e (record 
 
 pub text-still : {p : Prog Text} {s : List ℕ} {at : Place} {x : Stop} → at ≡ Stopped x → Gives p noText s at (textIn s (record { start = 0; end = 0 })) at
 text-still {s = s} e = handing-none (none-in s) (still e)
+
+-- ---- a text is one of its file
+lead-within : (l : List ℕ) → leadLen l ≤ length l
+unfolding leadLen
+lead-within [] = omega arith
+lead-within (x ∷ xs) = lead-pick (blank x) (leadLen xs) (length xs) (lead-within xs)
+  where
+    lead-pick : (t : Bool) (a b : ℕ) → a ≤ b → pick t (suc a) 0 ≤ suc b
+    lead-pick true a b k = omega arith
+    lead-pick false a b k = omega arith
+
+keep-within : (l : List ℕ) → keepLen l ≤ length l
+unfolding keepLen keepNext
+keep-within [] = omega arith
+keep-within (x ∷ xs) = keep-next (keepLen xs) (length xs) (keep-within xs)
+  where
+    keep-pick : (t : Bool) (b : ℕ) → pick t 0 1 ≤ suc b
+    keep-pick true b = omega arith
+    keep-pick false b = omega arith
+
+    keep-next : (a b : ℕ) → a ≤ b → keepNext x a ≤ suc b
+    keep-next zero b k = keep-pick (blank x) b
+    keep-next (suc a) b k = omega arith
+
+range-inside : (start k size : ℕ) → start + k ≤ size → Inside size (rangeOf start k)
+unfolding rangeOf
+range-inside start zero size h = record { sorted = omega arith; ends = omega arith }
+range-inside start (suc k) size h = record { sorted = omega arith; ends = h }
+
+pub none-of-file : (s : List ℕ) → OfFile s noText
+unfolding noText
+none-of-file s = record { is = sym (none-in s); inside = record { sorted = omega arith; ends = omega arith } }
+
+pub text-of-file : (s : List ℕ) (at n : ℕ) → at + n ≤ length s → OfFile s (textOf at (take n (drop at s)))
+text-of-file s at n f =
+    let end = at + cutLen (slice at (at + n) s) in
+    let start = at + leadLen (slice at end s) in
+    let stop = start + keepLen (slice start end s) in
+    let m : end ≤ at + n = omega (arith, cut-within (slice at (at + n) s), length-slice at (at + n) s f) in
+    let b : start ≤ end = omega (arith, lead-within (slice at end s), length-slice at end s (omega arith)) in
+    let l : stop ≤ end = omega (arith, keep-within (slice start end s), length-slice start end s (omega arith)) in
+    rw (text-between s at n end start stop f (omega arith) l m refl refl refl)
+    (record { is = refl; inside = range-inside start (stop - start) (length s) (omega arith) })

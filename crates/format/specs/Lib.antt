@@ -5,3 +5,4 @@ pub mod Fields
 pub mod Fits
 pub mod Alike
 pub mod Outcome
+pub mod Yields

@@ -372,7 +372,7 @@ pub struct Lyrics {
 // `used` is the number of bytes that the reading used.
 pub struct Song {
     pub used: usize,
-    pub version: u16,
+    pub version: u32,
     pub title: Range,
     pub subtitle: Range,
     pub composer: Range,

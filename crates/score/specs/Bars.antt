@@ -1,8 +1,8 @@
--- Bars: what is made of the headers, the directions and the tempos. Assumes nothing.
+-- Bars: what is made of a header, of the headers before it, and of the directions. Assumes nothing.
 use Prim.Native.Nat.{ℕ, zero, suc, _+_}
 use mathlib.Core.List.{List, [], _∷_}
 use mathlib.Core.Bool.{Bool, true, false, not, _&&_}
-use lib.ListN.{getD, length}
+use lib.ListN.{getD}
 use lib.Dec.{eqb, ltb}
 use lib.IntN.{pos, negsuc}
 use Rattle.format.specs.Text.{pick}
@@ -11,7 +11,7 @@ use Rattle.model.specs.declared.Time.{Time}
 use Rattle.model.specs.declared.Key.{Key}
 use Rattle.model.specs.declared.Key.the-variants.{NoKey, Fifths}
 use Rattle.model.specs.declared.Mode.the-variants.{Major}
-use Rattle.model.specs.declared.Tempo.{Tempo}
+use Rattle.model.specs.declared.Tempo.the-variants.{NoTempo}
 use Rattle.model.specs.declared.Ending.{Ending}
 use Rattle.model.specs.declared.Ending.the-variants.{NoEnding, Nth}
 use Rattle.model.specs.declared.Passes.{Passes}
@@ -22,128 +22,133 @@ use Rattle.model.specs.declared.Direction.{Direction}
 use Rattle.model.specs.declared.Direction.the-variants as D
 use Rattle.model.specs.Kinds.{fifthsWord, modeWord}
 use Rattle.song.specs.declared.header.Header.{Header}
-use Rattle.song.specs.Header.{noHeader}
+use Rattle.score.specs.declared.Before.{Before}
 
 -- ---- directions: entries 0, 2, 4, 5, 6, 8, 9, 10, 12 and 17 are kept in that order; any other above 0 is a loss
-pub record Entry : Type 0 where
+pub record Sign : Type 0 where
   pub number : ℕ
   pub direction : Direction
 
-abbrev entry : ℕ → Direction → Entry
-entry n d = record { number = n; direction = d }
+abbrev sign : ℕ → Direction → Sign
+sign n d = record { number = n; direction = d }
 
-abbrev pub keptEntries : List Entry
-keptEntries =
-    entry 0 D.Coda ∷ entry 2 D.Segno ∷ entry 4 D.Fine ∷ entry 5 D.DaCapo ∷ entry 6 D.DaCapoAlCoda ∷ entry 8 D.DaCapoAlFine
-    ∷ entry 9 D.DalSegno ∷ entry 10 D.DalSegnoAlCoda ∷ entry 12 D.DalSegnoAlFine ∷ entry 17 D.ToCoda ∷ []
+abbrev pub keptSigns : List Sign
+keptSigns =
+    sign 0 D.Coda ∷ sign 2 D.Segno ∷ sign 4 D.Fine ∷ sign 5 D.DaCapo ∷ sign 6 D.DaCapoAlCoda ∷ sign 8 D.DaCapoAlFine
+    ∷ sign 9 D.DalSegno ∷ sign 10 D.DalSegnoAlCoda ∷ sign 12 D.DalSegnoAlFine ∷ sign 17 D.ToCoda ∷ []
 
-abbrev pub otherEntries : List ℕ
-otherEntries = 1 ∷ 3 ∷ 7 ∷ 11 ∷ 13 ∷ 14 ∷ 15 ∷ 16 ∷ 18 ∷ []
+abbrev pub otherSigns : List ℕ
+otherSigns = 1 ∷ 3 ∷ 7 ∷ 11 ∷ 13 ∷ 14 ∷ 15 ∷ 16 ∷ 18 ∷ []
 
--- the directions of a bar, whose number in the file is one more
-abbrev pub directionsOf : List ℕ → ℕ → List Entry → List Direction
-directionsOf numbers bar [] = []
-directionsOf numbers bar (e ∷ es) =
-    pick (eqb (getD numbers (e .number) 0) (bar + 1)) (e .direction ∷ directionsOf numbers bar es) (directionsOf numbers bar es)
+-- whether a sign stands at a bar, whose number in the file is one more
+abbrev pub standsAt : List ℕ → ℕ → ℕ → Bool
+standsAt numbers bar n = eqb (getD numbers n 0) (bar + 1)
 
--- a bar keeps its first; more than one adds one loss for that bar
-abbrev firstOf : List Direction → Direction
-firstOf [] = D.NoDirection
-firstOf (d ∷ ds) = d
-
-abbrev pub directionAt : List ℕ → ℕ → Direction
-directionAt numbers bar = firstOf (directionsOf numbers bar keptEntries)
+-- a bar keeps its first
+abbrev pub firstSign : List ℕ → ℕ → List Sign → Direction
+firstSign numbers bar [] = D.NoDirection
+firstSign numbers bar (e ∷ es) = pick (standsAt numbers bar (e .number)) (e .direction) (firstSign numbers bar es)
 
 abbrev pub oneIf : Bool → ℕ
 oneIf true = 1
 oneIf false = 0
 
-abbrev pub several : List ℕ → ℕ → ℕ
-several numbers bar = oneIf (ltb 1 (length (directionsOf numbers bar keptEntries)))
+abbrev pub signsAt : List ℕ → ℕ → List Sign → ℕ
+signsAt numbers bar [] = 0
+signsAt numbers bar (e ∷ es) = oneIf (standsAt numbers bar (e .number)) + signsAt numbers bar es
 
-abbrev pub severalIn : List ℕ → ℕ → ℕ
-severalIn numbers zero = 0
-severalIn numbers (suc bars) = severalIn numbers bars + several numbers bars
+-- more than one adds one loss for that bar
+unfoldable pub several : List ℕ → ℕ → Bool
+several numbers bar = ltb 1 (signsAt numbers bar keptSigns)
+
+unfoldable pub directionAt : List ℕ → ℕ → Direction
+directionAt numbers bar = firstSign numbers bar keptSigns
 
 abbrev pub unsupported : List ℕ → List ℕ → ℕ
 unsupported numbers [] = 0
 unsupported numbers (e ∷ es) = oneIf (ltb 0 (getD numbers e 0)) + unsupported numbers es
 
--- ---- keys: the last key read in any bar so far
+-- ---- keys: the last key read in any bar so far; C major at the start
+abbrev pub cMajor : Key
+cMajor = Fifths (pos 0) Major
+
 abbrev pub keyAfter : Key → Key → Key
 keyAfter before NoKey = before
 keyAfter before (Fifths n m) = Fifths n m
 
-abbrev pub lastKey : Key → List Header → ℕ → Key
-lastKey before [] bars = before
-lastKey before (h ∷ hs) zero = before
-lastKey before (h ∷ hs) (suc bars) = lastKey (keyAfter before (h .key)) hs bars
+-- flats are preferred where it is below 0 (RULES.md 16)
+abbrev pub flatAfter : Bool → Key → Bool
+flatAfter flat NoKey = flat
+flatAfter flat (Fifths (pos n) m) = false
+flatAfter flat (Fifths (negsuc n) m) = true
 
-abbrev cMajor : Key
-cMajor = Fifths (pos 0) Major
-
--- flats are preferred where it is below 0; C major at the start
-abbrev belowZero : Key → Bool
-belowZero NoKey = false
-belowZero (Fifths (pos n) m) = false
-belowZero (Fifths (negsuc n) m) = true
-
-unfoldable pub flatIn : List Header → ℕ → Bool
-flatIn hs bar = belowZero (lastKey cMajor hs (bar + 1))
-
--- ---- whether time or key changed: never in bar 0; the key is compared with the last key read
-abbrev sameTime : Time → Time → Bool
+-- ---- whether time or key changed: never in bar 0; the key is compared with the last key read (RULES.md 10)
+abbrev pub sameTime : Time → Time → Bool
 sameTime a b = eqb (a .numerator) (b .numerator) && eqb (a .denominator) (b .denominator)
 
-abbrev sameKey : Key → Key → Bool
+abbrev pub sameKey : Key → Key → Bool
 sameKey a b = eqb (fifthsWord a) (fifthsWord b) && eqb (modeWord a) (modeWord b)
 
-abbrev isKey : Key → Bool
+abbrev pub isKey : Key → Bool
 isKey NoKey = false
 isKey (Fifths n m) = true
 
-abbrev pub timeChanged : List Header → ℕ → Bool
-timeChanged hs zero = false
-timeChanged hs (suc b) = not (sameTime (getD hs b noHeader .time) (getD hs (suc b) noHeader .time))
+unfoldable pub keyChanged : ℕ → Key → Key → Bool
+keyChanged bar before key = ltb 0 bar && isKey key && not (sameKey key before)
 
-abbrev pub keyChanged : List Header → ℕ → Bool
-keyChanged hs zero = false
-keyChanged hs (suc b) =
-    isKey (getD hs (suc b) noHeader .key) && not (sameKey (getD hs (suc b) noHeader .key) (lastKey cMajor hs (suc b)))
+unfoldable pub timeChanged : ℕ → Time → Time → Bool
+timeChanged bar before time = ltb 0 bar && not (sameTime before time)
 
--- ---- endings: place among equal neighbours; a neighbour that does not exist has ending 0
-abbrev endingAt : List Header → ℕ → ℕ
-endingAt hs b = getD hs b noHeader .ending
+-- ---- endings: place among equal neighbours; a neighbour that does not exist has ending 0 (RULES.md 9)
+abbrev pub goesOn : Before → Header → Bool
+goesOn before h = not (eqb (h .ending) 0) && eqb (before .ending) (h .ending)
 
-abbrev endingBefore : List Header → ℕ → ℕ
-endingBefore hs zero = 0
-endingBefore hs (suc b) = endingAt hs b
+-- a bar's place while no bar follows it
+abbrev pub lastPlace : Before → Header → EndingPlace
+lastPlace before h = pick (eqb (h .ending) 0) NoPlace (pick (eqb (before .ending) (h .ending)) End BeginEnd)
 
-abbrev placeOf : ℕ → Bool → Bool → EndingPlace
-placeOf n starts ends = pick (eqb n 0) NoPlace (pick starts (pick ends BeginEnd Begin) (pick ends End Mid))
+-- a bar's place once its neighbour after it has the same ending
+abbrev pub followed : EndingPlace → EndingPlace
+followed NoPlace = NoPlace
+followed Begin = Begin
+followed Mid = Mid
+followed End = Mid
+followed BeginEnd = Begin
 
-abbrev pub endingPlace : List Header → ℕ → EndingPlace
-endingPlace hs b =
-    placeOf (endingAt hs b) (not (eqb (endingBefore hs b) (endingAt hs b))) (not (eqb (endingAt hs (b + 1)) (endingAt hs b)))
-
-abbrev endingOf : ℕ → Ending
+abbrev pub endingOf : ℕ → Ending
 endingOf n = pick (eqb n 0) NoEnding (Nth n)
 
-abbrev passesOf : ℕ → Passes
+abbrev pub passesOf : ℕ → Passes
 passesOf m = pick (eqb m 0) NoPasses (Mask m)
 
-unfoldable pub barOf : List ℕ → List Header → Tempo → ℕ → Bar
-barOf numbers hs tempo b =
-    let h : Header = getD hs b noHeader in
+-- a double bar stands where no repeat ends
+unfoldable pub barOf : List ℕ → ℕ → Time → Header → Before → Bar
+barOf numbers bar time h before =
     record {
       time = h .time;
       key = h .key;
-      changed = record { time = timeChanged hs b; key = keyChanged hs b };
+      changed = record { time = timeChanged bar time (h .time); key = keyChanged bar (before .key) (h .key) };
       repeats = record { start = h .«repeat_start»; end = h .«repeat_end»; double = h .«double_bar» && not (h .«repeat_end») };
       ending = endingOf (h .ending);
       passes = passesOf (h .passes);
-      place = endingPlace hs b;
+      place = lastPlace before h;
       marker = h .marker;
-      direction = directionAt numbers b;
-      tempo = tempo;
+      direction = directionAt numbers bar;
+      tempo = NoTempo;
+    }
+
+-- beside an index that is out of range
+unfoldable pub noBar : Bar
+noBar =
+    record {
+      time = record { numerator = 0; denominator = 0 };
+      key = NoKey;
+      changed = record { time = false; key = false };
+      repeats = record { start = false; end = false; double = false };
+      ending = NoEnding;
+      passes = NoPasses;
+      place = NoPlace;
+      marker = record { start = 0; end = 0 };
+      direction = D.NoDirection;
+      tempo = NoTempo;
     }

@@ -1,10 +1,10 @@
 -- The smallest files, run through the definition by the checker: how far each goes, and what is added on the way. Assumes nothing.
-use Prim.Native.Nat.{ℕ, _+_}
+use Prim.Native.Nat.{ℕ, _+_, _*_}
 use mathlib.Core.Path.{_≡_, refl}
 use mathlib.Core.List.{List, [], _∷_, _++_}
 use lib.ListN.{replicate}
-use Rattle.format.specs.Prog.{run, ok, Res}
-use Rattle.score.specs.File.{Adding, song, voices, oneHeader, headers, tracks, voice, bar, bars, file}
+use Rattle.format.specs.Prog.{run, ok, stopped, Res}
+use Rattle.score.specs.File.{Adding, Whole, song, voices, oneHeader, headers, oneTrack, tracks, oneBeat, voice, barTrack, bar, bars, score, file}
 use Rattle.format.specs.Text as FText
 use Rattle.format.specs.Prog as FProg
 use Rattle.format.specs.Fields as FFields
@@ -17,23 +17,25 @@ use Rattle.bin.specs.Signed as BSigned
 use Rattle.curve.specs.Held as CHeld
 
 -- how many headers, tracks and beats were added
-pub record Tally : Type 0 where
-  pub bars : ℕ
-  pub tracks : ℕ
-  pub beats : ℕ
-
-abbrev tallying : Adding Tally
+abbrev tallying : Adding ℕ ℕ ℕ
 tallying =
     record {
-      begin = λ g. record { bars = 0; tracks = 0; beats = 0 };
-      addHeader = λ b h t. record { bars = t .bars + 1; tracks = t .tracks; beats = t .beats };
-      addTrack = λ i x t. record { bars = t .bars; tracks = t .tracks + 1; beats = t .beats };
-      addBeat = λ b i w x t. record { bars = t .bars; tracks = t .tracks; beats = t .beats + 1 };
+      headers = λ g. 0;
+      addHeader = λ g b time h n. n + 1;
+      tracks = λ n. 0;
+      addTrack = λ i x n. n + 1;
+      bars = λ n m. 100 * n + 10 * m;
+      enterBar = λ b n. n;
+      addBeat = λ b i w x n. n + 1;
     }
 
--- one bar, one track, no beats
-abbrev alone : ℕ → Res Tally
-alone n = ok (record { bars = 1; tracks = 1; beats = 0 }) n
+-- how far a file goes, with one bar, one track and no beats
+abbrev pub far : Res (Whole ℕ ℕ) → List ℕ
+far (ok x n) = n ∷ x .bars ∷ []
+far (stopped r) = []
+
+abbrev alone : ℕ → List ℕ
+alone n = n ∷ 110 ∷ []
 
 -- a file that is 0 but for its version, its size before the counts, one bar and one track
 abbrev smallest : List ℕ → ℕ → ℕ → List ℕ
@@ -42,11 +44,11 @@ smallest version before after =
 
 -- document 01: v3.00 uses 963 bytes, v4.00 1,008, v5.00 1,192, v5.10 1,226
 pub record Smallest : Type 0 where
-  pub v3-00 : run (file tallying) (smallest (51 ∷ 46 ∷ 48 ∷ 48 ∷ []) 821 103) 0 ≡ alone 963
-  pub v4-00 : run (file tallying) (smallest (52 ∷ 46 ∷ 48 ∷ 48 ∷ []) 866 103) 0 ≡ alone 1008
-  pub v5-00 : run (file tallying) (smallest (53 ∷ 46 ∷ 48 ∷ 48 ∷ []) 997 156) 0 ≡ alone 1192
-  pub v5-10 : run (file tallying) (smallest (53 ∷ 46 ∷ 49 ∷ 48 ∷ []) 1017 170) 0 ≡ alone 1226
+  pub v3-00 : far (run (file tallying) (smallest (51 ∷ 46 ∷ 48 ∷ 48 ∷ []) 821 103) 0) ≡ alone 963
+  pub v4-00 : far (run (file tallying) (smallest (52 ∷ 46 ∷ 48 ∷ 48 ∷ []) 866 103) 0) ≡ alone 1008
+  pub v5-00 : far (run (file tallying) (smallest (53 ∷ 46 ∷ 48 ∷ 48 ∷ []) 997 156) 0) ≡ alone 1192
+  pub v5-10 : far (run (file tallying) (smallest (53 ∷ 46 ∷ 49 ∷ 48 ∷ []) 1017 170) 0) ≡ alone 1226
 
 pub smallest-files : Smallest
-unfolding FText.blank FText.cutLen FText.leadLen FText.keepNext FText.keepLen FText.cut FText.trim FText.rangeOf FText.textOf FText.noText FProg.run FProg.bind FProg.turns FProg.whenLe FProg.whenEq FProg.whenBits FFields.u8 FFields.number FFields.skip FFields.words FFields.counted FFields.count FFields.stringOf FFields.stringPast FFields.fixedString FFields.fixedStringPast FFields.intByteStringUnused FFields.intByteStringUnusedPast FFields.intString FFields.intStringPast FFields.lessOne FFields.intByteString FFields.intByteStringPast SVersion.starts SVersion.isFamily SVersion.isDigit SVersion.digitsLen SVersion.digitsFrom SVersion.short SVersion.unplussed SVersion.numbered SVersion.versionOf SVersion.accepted SVersion.version SInfo.names SInfo.music SInfo.composerOf SInfo.credits SInfo.notices SInfo.noInfo SInfo.info SInfo.tripletFeel SInfo.lyricTrack SInfo.fromZero SInfo.lyricLine SInfo.noLine SInfo.noLyrics SInfo.fiveLines SInfo.lyrics SSetup.equalizer SSetup.templates SSetup.page SSetup.tempoOf SSetup.hideTempo SSetup.octave SSetup.tempo SSetup.setup SSetup.programOf SSetup.channel SSetup.noPort SSetup.nextChannel SSetup.port SSetup.noPorts SSetup.nextPort SSetup.channelTable SSetup.barNumber SSetup.noDirections SSetup.nextDirection SSetup.nineteen SSetup.directions SHeader.notEmpty SHeader.noCounts SHeader.counts SHeader.has SHeader.commonTime SHeader.powerOfTwo SHeader.timeOf SHeader.time SHeader.repeatCount SHeader.endingByte SHeader.marker SHeader.fifthsOf SHeader.modeOf SHeader.key SHeader.marks SHeader.beams SHeader.tail SHeader.endingOf SHeader.passesOf SHeader.endingNumber SHeader.noHeader SHeader.headerOf SHeader.header STrack.noTunings STrack.nextTuning STrack.tunings STrack.noStrings STrack.strings STrack.numbered STrack.sound STrack.effect STrack.staff STrack.tablatureOf STrack.low STrack.clefOf STrack.programOf STrack.noTrack STrack.trackOf STrack.track BSigned.lessOneWrapped CHeld.held song voices oneHeader headers tracks voice bar bars file
+unfolding FText.blank FText.cutLen FText.leadLen FText.keepNext FText.keepLen FText.cut FText.trim FText.rangeOf FText.textOf FText.noText FProg.run FProg.bind FProg.turns FProg.whenLe FProg.whenEq FProg.whenBits FFields.u8 FFields.number FFields.skip FFields.words FFields.counted FFields.count FFields.stringOf FFields.stringPast FFields.fixedString FFields.fixedStringPast FFields.intByteStringUnused FFields.intByteStringUnusedPast FFields.intString FFields.intStringPast FFields.lessOne FFields.intByteString FFields.intByteStringPast SVersion.starts SVersion.isFamily SVersion.isDigit SVersion.digitsLen SVersion.digitsFrom SVersion.short SVersion.unplussed SVersion.numbered SVersion.versionOf SVersion.accepted SVersion.version SInfo.names SInfo.music SInfo.composerOf SInfo.credits SInfo.notices SInfo.noInfo SInfo.info SInfo.tripletFeel SInfo.lyricTrack SInfo.fromZero SInfo.lyricLine SInfo.noLine SInfo.noLyrics SInfo.fiveLines SInfo.lyrics SSetup.equalizer SSetup.templates SSetup.page SSetup.tempoOf SSetup.hideTempo SSetup.octave SSetup.tempo SSetup.setup SSetup.programOf SSetup.channel SSetup.noPort SSetup.nextChannel SSetup.port SSetup.noPorts SSetup.nextPort SSetup.channelTable SSetup.barNumber SSetup.noDirections SSetup.nextDirection SSetup.nineteen SSetup.directions SHeader.notEmpty SHeader.noCounts SHeader.counts SHeader.has SHeader.commonTime SHeader.powerOfTwo SHeader.timeOf SHeader.time SHeader.repeatCount SHeader.endingByte SHeader.marker SHeader.fifthsOf SHeader.modeOf SHeader.key SHeader.marks SHeader.beams SHeader.tail SHeader.endingOf SHeader.passesOf SHeader.endingNumber SHeader.noHeader SHeader.headerOf SHeader.header STrack.noTunings STrack.nextTuning STrack.tunings STrack.noStrings STrack.strings STrack.numbered STrack.sound STrack.effect STrack.staff STrack.tablatureOf STrack.low STrack.clefOf STrack.programOf STrack.noTrack STrack.trackOf STrack.track BSigned.lessOneWrapped CHeld.held song voices oneHeader headers oneTrack tracks oneBeat voice barTrack bar bars score file
 smallest-files = record { v3-00 = refl; v4-00 = refl; v5-00 = refl; v5-10 = refl }

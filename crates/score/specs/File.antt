@@ -1,4 +1,4 @@
--- The skeleton of a whole file, to the last voice of the last bar, generic in the state that headers, tracks and beats are
+-- The skeleton of a whole file, to the last voice of the last bar, generic in the states that headers, tracks and beats are
 -- added to. Assumes nothing.
 use Prim.Native.Nat.{ℕ}
 use mathlib.Core.Bool.{Bool}
@@ -48,37 +48,62 @@ unfoldable pub voices : ℕ → Prog ℕ
 voices v = whenLe 500 v (bind (skip 1) (λ _. ret 2)) (ret 1)
 
 -- a header hands its time on to the next
-pub record Timed (S : Type 0) : Type 0 where
+pub record Timed (H : Type 0) : Type 0 where
   pub time : Time
-  pub state : S
+  pub state : H
 
--- how a state begins, and what is added to it: by bar; by track; by bar, track and voice
-pub record Adding (S : Type 0) : Type 0 where
-  pub begin : Song → S
-  pub addHeader : ℕ → Header → S → S
-  pub addTrack : ℕ → Track → S → S
-  pub addBeat : ℕ → ℕ → ℕ → BeatIs → S → S
+-- what headers, tracks and beats are added to: a header by the time before it and its bar; a track by its number; a beat by its
+-- bar, track and voice. A bar is entered before its beats
+pub record Adding (H T W : Type 0) : Type 0 where
+  pub headers : Song → H
+  pub addHeader : Song → ℕ → Time → Header → H → H
+  pub tracks : H → T
+  pub addTrack : ℕ → Track → T → T
+  pub bars : H → T → W
+  pub enterBar : ℕ → W → W
+  pub addBeat : ℕ → ℕ → ℕ → BeatIs → W → W
 
-module _ {S : Type 0} (add : Adding S) where
-  unfoldable pub oneHeader : ℕ → ℕ → Timed S → Prog (Timed S)
-  oneHeader v b w = bind (header v (w .time)) (λ h. ret (record { time = h .time; state = add .addHeader b h (w .state) }))
+-- a file that was read to its end
+pub record Whole (T W : Type 0) : Type 0 where
+  pub song : Song
+  pub tracks : T
+  pub bars : W
 
-  unfoldable pub headers : ℕ → ℕ → S → Prog (Timed S)
-  headers v bars st = turns bars 0 (oneHeader v) (record { time = commonTime; state = st })
+module _ {H T W : Type 0} (add : Adding H T W) where
+  unfoldable pub oneHeader : Song → ℕ → Timed H → Prog (Timed H)
+  oneHeader g b w =
+      bind (header (g .version) (w .time)) (λ h. ret (record { time = h .time; state = add .addHeader g b (w .time) h (w .state) }))
 
-  unfoldable pub tracks : Song → S → Prog S
-  tracks g st =
-      turns (g .counts .tracks) 0 (λ t u. bind (track (g .version) (g .programs)) (λ x. ret (add .addTrack t x u))) st
+  unfoldable pub headers : Song → Prog (Timed H)
+  headers g = turns (g .counts .bars) 0 (oneHeader g) (record { time = commonTime; state = add .headers g })
 
-  unfoldable pub voice : ℕ → ℕ → ℕ → ℕ → S → Prog S
-  voice v b t w st =
-      bind (count C.Beats) (λ n. turns n 0 (λ _ u. bind (beat v) (λ x. ret (add .addBeat b t w x u))) st)
+  unfoldable pub oneTrack : Song → ℕ → T → Prog T
+  oneTrack g t u = bind (track (g .version) (g .programs)) (λ x. ret (add .addTrack t x u))
 
-  unfoldable pub bar : ℕ → ℕ → ℕ → S → Prog S
-  bar v b t st = bind (voices v) (λ n. turns n 0 (λ w u. voice v b t w u) st)
+  unfoldable pub tracks : Song → T → Prog T
+  tracks g u = turns (g .counts .tracks) 0 (oneTrack g) u
 
-  unfoldable pub bars : Song → S → Prog S
-  bars g st = turns (g .counts .bars) 0 (λ b u. turns (g .counts .tracks) 0 (λ t x. bar (g .version) b t x) u) st
+  unfoldable pub oneBeat : (v b t w : ℕ) → ℕ → W → Prog W
+  oneBeat v b t w i u = bind (beat v) (λ x. ret (add .addBeat b t w x u))
 
-  unfoldable pub file : Prog S
-  file = bind song (λ g. bind (headers (g .version) (g .counts .bars) (add .begin g)) (λ w. bind (tracks g (w .state)) (λ u. bars g u)))
+  unfoldable pub voice : (v b t w : ℕ) → W → Prog W
+  voice v b t w u = bind (count C.Beats) (λ n. turns n 0 (oneBeat v b t w) u)
+
+  unfoldable pub barTrack : (v b t : ℕ) → W → Prog W
+  barTrack v b t u = bind (voices v) (λ n. turns n 0 (voice v b t) u)
+
+  unfoldable pub bar : (v tracks b : ℕ) → W → Prog W
+  bar v tracks b u = turns tracks 0 (barTrack v b) (add .enterBar b u)
+
+  unfoldable pub bars : Song → W → Prog W
+  bars g u = turns (g .counts .bars) 0 (bar (g .version) (g .counts .tracks)) u
+
+  unfoldable pub score : Song → Prog (Whole T W)
+  score g =
+      bind (headers g) (λ h.
+      bind (tracks g (add .tracks (h .state))) (λ t.
+      bind (bars g (add .bars (h .state) t)) (λ w.
+      ret (record { song = g; tracks = t; bars = w }))))
+
+  unfoldable pub file : Prog (Whole T W)
+  file = bind song score

@@ -4,8 +4,7 @@ use Prim.Native.Nat.{ℕ}
 use mathlib.Core.Path.{_≡_, refl}
 use mathlib.Core.List.{List, [], _∷_}
 use Rattle.format.specs.Prog.{run}
-use Rattle.score.specs.File.{file}
-use Rattle.score.specs.Score.{scoring}
+use Rattle.score.specs.Score.{scored}
 use Rattle.score.specs.Summary.{summary}
 use lib.Count as Count
 use Rattle.format.specs.Text as FormatText
@@ -39,6 +38,7 @@ use Rattle.score.specs.Members as ScoreMembers
 use Rattle.score.specs.Rows as ScoreRows
 use Rattle.score.specs.Bars as ScoreBars
 use Rattle.score.specs.Losses as ScoreLosses
+use Rattle.score.specs.Page as ScorePage
 use Rattle.score.specs.Score as ScoreScore
 
 -- input 221: FICHIER GUITAR PRO v4.00
@@ -448,25 +448,25 @@ input217 =
     219 ∷ 8 ∷ 6 ∷ 8 ∷ 194 ∷ 0 ∷ 0 ∷ 0 ∷ 0 ∷ 0 ∷ 0 ∷ 0 ∷ 0 ∷ []
 
 pub record AsTheOracle : Type 0 where
-  pub of221 : summary (run (file scoring) input221 0)
+  pub of221 : summary (run scored input221 0)
       ≡ 1529 ∷ 3 ∷ 1 ∷ 5 ∷ 16 ∷ 0 ∷ 2 ∷ 3 ∷ 1 ∷ 5 ∷ 16 ∷ 0 ∷ 3 ∷ 1 ∷ 0 ∷ 1 ∷ 0 ∷ 0 ∷ 0 ∷ 0 ∷ 0 ∷ 2 ∷ 1 ∷ 3 ∷ 7 ∷ 5 ∷ 0 ∷ 4 ∷
       0 ∷ 1 ∷ []
-  pub of218 : summary (run (file scoring) input218 0)
+  pub of218 : summary (run scored input218 0)
       ≡ 1513 ∷ 3 ∷ 2 ∷ 13 ∷ 75 ∷ 21 ∷ 0 ∷ 3 ∷ 2 ∷ 13 ∷ 75 ∷ 35 ∷ 0 ∷ 2 ∷ 3 ∷ 0 ∷ 0 ∷ 1 ∷ 1 ∷ 0 ∷ 0 ∷ 0 ∷ 0 ∷ 0 ∷ 0 ∷ 0 ∷ 3 ∷
       2 ∷ 0 ∷ 1 ∷ []
-  pub of196 : summary (run (file scoring) input196 0)
+  pub of196 : summary (run scored input196 0)
       ≡ 1611 ∷ 3 ∷ 1 ∷ 4 ∷ 16 ∷ 0 ∷ 0 ∷ 3 ∷ 1 ∷ 4 ∷ 16 ∷ 0 ∷ 0 ∷ 0 ∷ 0 ∷ 0 ∷ 0 ∷ 0 ∷ 0 ∷ 1 ∷ 9 ∷ 2 ∷ 3 ∷ 1 ∷ 1 ∷ 0 ∷ 0 ∷ 1 ∷
       2 ∷ 0 ∷ []
-  pub of223 : summary (run (file scoring) input223 0)
+  pub of223 : summary (run scored input223 0)
       ≡ 1843 ∷ 3 ∷ 1 ∷ 16 ∷ 78 ∷ 0 ∷ 0 ∷ 3 ∷ 1 ∷ 16 ∷ 78 ∷ 0 ∷ 0 ∷ 0 ∷ 0 ∷ 0 ∷ 8 ∷ 0 ∷ 0 ∷ 1 ∷ 0 ∷ 0 ∷ 0 ∷ 0 ∷ 0 ∷ 3 ∷ 0 ∷
       0 ∷ 0 ∷ 0 ∷ []
-  pub of64 : summary (run (file scoring) input64 0)
+  pub of64 : summary (run scored input64 0)
       ≡ 963 ∷ 1 ∷ 1 ∷ 0 ∷ 0 ∷ 0 ∷ 0 ∷ 1 ∷ 1 ∷ 0 ∷ 0 ∷ 0 ∷ 0 ∷ 0 ∷ 0 ∷ 0 ∷ 0 ∷ 0 ∷ 0 ∷ 0 ∷ 0 ∷ 0 ∷ 0 ∷ 0 ∷ 0 ∷ 0 ∷ 0 ∷ 0 ∷
       0 ∷ 0 ∷ []
-  pub of217 : summary (run (file scoring) input217 0)
+  pub of217 : summary (run scored input217 0)
       ≡ 1219 ∷ 2 ∷ 2 ∷ 6 ∷ 14 ∷ 0 ∷ 0 ∷ 2 ∷ 2 ∷ 6 ∷ 14 ∷ 0 ∷ 0 ∷ 1 ∷ 1 ∷ 0 ∷ 0 ∷ 0 ∷ 0 ∷ 0 ∷ 0 ∷ 0 ∷ 0 ∷ 0 ∷ 0 ∷ 0 ∷ 2 ∷ 0 ∷
       0 ∷ 0 ∷ []
 
 pub as-the-oracle : AsTheOracle
-unfolding FormatText.blank FormatText.cutLen FormatText.leadLen FormatText.keepNext FormatText.keepLen FormatText.cut FormatText.trim FormatText.rangeOf FormatText.textOf FormatText.noText FormatProg.run FormatProg.bind FormatProg.turns FormatProg.whenLe FormatProg.whenEq FormatProg.whenBits FormatFields.u8 FormatFields.number FormatFields.skip FormatFields.words FormatFields.counted FormatFields.count FormatFields.stringOf FormatFields.stringPast FormatFields.fixedString FormatFields.fixedStringPast FormatFields.intByteStringUnused FormatFields.intByteStringUnusedPast FormatFields.intString FormatFields.intStringPast FormatFields.lessOne FormatFields.intByteString FormatFields.intByteStringPast BinSigned.signed BinSigned.unsigned BinSigned.lessOneWrapped CurveHeld.held CurveSlide.slideOf CurveLevel.noteLevel CurveLevel.chordOf CurveLevel.chordWith CurveLevel.chordLevel CurveLevel.levelAfter CurveKey.percussionKey CurveBend.heightOf CurveBend.pointOf CurveBend.finish CurveBend.larger CurveBend.curveHeight SongVersion.starts SongVersion.isFamily SongVersion.isDigit SongVersion.digitsLen SongVersion.digitsFrom SongVersion.short SongVersion.unplussed SongVersion.numbered SongVersion.versionOf SongVersion.accepted SongVersion.version SongInfo.names SongInfo.music SongInfo.composerOf SongInfo.credits SongInfo.notices SongInfo.noInfo SongInfo.info SongInfo.tripletFeel SongInfo.lyricTrack SongInfo.fromZero SongInfo.lyricLine SongInfo.noLine SongInfo.noLyrics SongInfo.fiveLines SongInfo.lyrics SongSetup.equalizer SongSetup.templates SongSetup.page SongSetup.tempoOf SongSetup.hideTempo SongSetup.octave SongSetup.tempo SongSetup.setup SongSetup.programOf SongSetup.channel SongSetup.noPort SongSetup.nextChannel SongSetup.port SongSetup.noPorts SongSetup.nextPort SongSetup.channelTable SongSetup.barNumber SongSetup.noDirections SongSetup.nextDirection SongSetup.nineteen SongSetup.directions SongHeader.notEmpty SongHeader.noCounts SongHeader.counts SongHeader.has SongHeader.commonTime SongHeader.powerOfTwo SongHeader.timeOf SongHeader.time SongHeader.repeatCount SongHeader.endingByte SongHeader.marker SongHeader.fifthsOf SongHeader.modeOf SongHeader.key SongHeader.marks SongHeader.beams SongHeader.tail SongHeader.endingOf SongHeader.passesOf SongHeader.endingNumber SongHeader.noHeader SongHeader.headerOf SongHeader.header SongTrack.noTunings SongTrack.nextTuning SongTrack.tunings SongTrack.noStrings SongTrack.strings SongTrack.numbered SongTrack.sound SongTrack.effect SongTrack.staff SongTrack.tablatureOf SongTrack.low SongTrack.clefOf SongTrack.programOf SongTrack.noTrack SongTrack.trackOf SongTrack.track BeatOptional.has BeatOptional.notNegative BeatOptional.optional BeatPoints.bendPoint BeatPoints.bendPoints BeatPoints.bend BeatPoints.whammy BeatPoints.word BeatPoints.pointsAt BeatHead.tupletOf BeatHead.status BeatHead.tuplet BeatHead.headOf BeatHead.noHead BeatHead.head BeatChord.diagram BeatChord.oldFrets BeatChord.oldChord BeatChord.earlyChord BeatChord.chord BeatChord.chordName BeatChord.beatText BeatEffects.moreFlags BeatEffects.tappingOf BeatEffects.noTapping BeatEffects.tappingEnd BeatEffects.tapping BeatEffects.tremoloBar BeatEffects.brushOf BeatEffects.brush BeatEffects.strokeOf BeatEffects.stroke BeatEffects.noEffects BeatEffects.effectsOf BeatEffects.effectsBy BeatEffects.beatEffects BeatMix.sign BeatMix.threeSigns BeatMix.mixSound BeatMix.tempoName BeatMix.duration BeatMix.threeDurations BeatMix.tempoEnd BeatMix.mixFlags BeatMix.wah BeatMix.mixStrings BeatMix.tempoOf BeatMix.noMix BeatMix.mixEnd BeatMix.anyGiven BeatMix.mixTempo BeatMix.mixTable BeatMix.mix BeatMarks.noteBend BeatMarks.graceOf BeatMarks.graceFlags BeatMarks.graceNote BeatMarks.grace BeatMarks.tremolo BeatMarks.slideFlag BeatMarks.slide BeatMarks.harmonicEnd BeatMarks.noHarmonic BeatMarks.harmonic BeatMarks.trill BeatMarks.noMarks BeatMarks.marksOf BeatMarks.marks BeatMarks.noNoteEffects BeatMarks.noteEffects BeatNote.frettedByte BeatNote.ownDuration BeatNote.dynamic BeatNote.leftHand BeatNote.noHands BeatNote.hands BeatNote.percent BeatNote.accidental BeatNote.readOf BeatNote.noteEnd BeatNote.noteBy BeatNote.note BeatNote.noNote BeatNotes.stringBit BeatNotes.stringNote BeatNotes.noNotes BeatNotes.notes BeatTail.ottavaOf BeatTail.tailByte BeatTail.tail BeatBeat.beatNotes BeatBeat.beatBy BeatBeat.beat BeatBeat.noBeat ScoreFile.song ScoreFile.voices ScoreFile.oneHeader ScoreFile.headers ScoreFile.tracks ScoreFile.voice ScoreFile.bar ScoreFile.bars ScoreFile.file ScoreSounding.soundingFrom ScoreSounding.sounding ScoreMembers.inOrder ScoreMembers.memberOf ScoreMembers.graceMember ScoreRows.noteMarks ScoreRows.beatMarks ScoreRows.marksOf ScoreRows.playedWith ScoreRows.restRow ScoreRows.chordRow ScoreRows.graceRow ScoreRows.rowsOf ScoreBars.flatIn ScoreBars.barOf ScoreLosses.headerLosses ScoreLosses.trackLosses ScoreLosses.readingLosses ScoreLosses.buildingLosses ScoreScore.begin ScoreScore.addHeader ScoreScore.addTrack ScoreScore.addBeat Count.ones Count.onesIn Count.trailingZeros
+unfolding FormatText.blank FormatText.cutLen FormatText.leadLen FormatText.keepNext FormatText.keepLen FormatText.cut FormatText.trim FormatText.rangeOf FormatText.textOf FormatText.noText FormatProg.run FormatProg.bind FormatProg.turns FormatProg.whenLe FormatProg.whenEq FormatProg.whenBits FormatFields.u8 FormatFields.number FormatFields.skip FormatFields.words FormatFields.counted FormatFields.count FormatFields.stringOf FormatFields.stringPast FormatFields.fixedString FormatFields.fixedStringPast FormatFields.intByteStringUnused FormatFields.intByteStringUnusedPast FormatFields.intString FormatFields.intStringPast FormatFields.lessOne FormatFields.intByteString FormatFields.intByteStringPast BinSigned.signed BinSigned.unsigned BinSigned.lessOneWrapped CurveHeld.held CurveSlide.slideOf CurveLevel.noteLevel CurveLevel.chordOf CurveLevel.chordWith CurveLevel.chordLevel CurveLevel.levelAfter CurveKey.percussionKey CurveBend.heightOf CurveBend.pointOf CurveBend.finish CurveBend.larger CurveBend.curveHeight SongVersion.starts SongVersion.isFamily SongVersion.isDigit SongVersion.digitsLen SongVersion.digitsFrom SongVersion.short SongVersion.unplussed SongVersion.numbered SongVersion.versionOf SongVersion.accepted SongVersion.version SongInfo.names SongInfo.music SongInfo.composerOf SongInfo.credits SongInfo.notices SongInfo.noInfo SongInfo.info SongInfo.tripletFeel SongInfo.lyricTrack SongInfo.fromZero SongInfo.lyricLine SongInfo.noLine SongInfo.noLyrics SongInfo.fiveLines SongInfo.lyrics SongSetup.equalizer SongSetup.templates SongSetup.page SongSetup.tempoOf SongSetup.hideTempo SongSetup.octave SongSetup.tempo SongSetup.setup SongSetup.programOf SongSetup.channel SongSetup.noPort SongSetup.nextChannel SongSetup.port SongSetup.noPorts SongSetup.nextPort SongSetup.channelTable SongSetup.barNumber SongSetup.noDirections SongSetup.nextDirection SongSetup.nineteen SongSetup.directions SongHeader.notEmpty SongHeader.noCounts SongHeader.counts SongHeader.has SongHeader.commonTime SongHeader.powerOfTwo SongHeader.timeOf SongHeader.time SongHeader.repeatCount SongHeader.endingByte SongHeader.marker SongHeader.fifthsOf SongHeader.modeOf SongHeader.key SongHeader.marks SongHeader.beams SongHeader.tail SongHeader.endingOf SongHeader.passesOf SongHeader.endingNumber SongHeader.noHeader SongHeader.headerOf SongHeader.header SongTrack.noTunings SongTrack.nextTuning SongTrack.tunings SongTrack.noStrings SongTrack.strings SongTrack.numbered SongTrack.sound SongTrack.effect SongTrack.staff SongTrack.tablatureOf SongTrack.low SongTrack.clefOf SongTrack.programOf SongTrack.noTrack SongTrack.trackOf SongTrack.track BeatOptional.has BeatOptional.notNegative BeatOptional.optional BeatPoints.bendPoint BeatPoints.bendPoints BeatPoints.bend BeatPoints.whammy BeatPoints.word BeatPoints.pointsAt BeatHead.tupletOf BeatHead.status BeatHead.tuplet BeatHead.headOf BeatHead.noHead BeatHead.head BeatChord.diagram BeatChord.oldFrets BeatChord.oldChord BeatChord.earlyChord BeatChord.chord BeatChord.chordName BeatChord.beatText BeatEffects.moreFlags BeatEffects.tappingOf BeatEffects.noTapping BeatEffects.tappingEnd BeatEffects.tapping BeatEffects.tremoloBar BeatEffects.brushOf BeatEffects.brush BeatEffects.strokeOf BeatEffects.stroke BeatEffects.noEffects BeatEffects.effectsOf BeatEffects.effectsBy BeatEffects.beatEffects BeatMix.sign BeatMix.threeSigns BeatMix.mixSound BeatMix.tempoName BeatMix.duration BeatMix.threeDurations BeatMix.tempoEnd BeatMix.mixFlags BeatMix.wah BeatMix.mixStrings BeatMix.tempoOf BeatMix.noMix BeatMix.mixEnd BeatMix.anyGiven BeatMix.mixTempo BeatMix.mixTable BeatMix.mix BeatMarks.noteBend BeatMarks.graceOf BeatMarks.graceFlags BeatMarks.graceNote BeatMarks.grace BeatMarks.tremolo BeatMarks.slideFlag BeatMarks.slide BeatMarks.harmonicEnd BeatMarks.noHarmonic BeatMarks.harmonic BeatMarks.trill BeatMarks.noMarks BeatMarks.marksOf BeatMarks.marks BeatMarks.noNoteEffects BeatMarks.noteEffects BeatNote.frettedByte BeatNote.ownDuration BeatNote.dynamic BeatNote.leftHand BeatNote.noHands BeatNote.hands BeatNote.percent BeatNote.accidental BeatNote.readOf BeatNote.noteEnd BeatNote.noteBy BeatNote.note BeatNote.noNote BeatNotes.stringBit BeatNotes.stringNote BeatNotes.noNotes BeatNotes.notes BeatTail.ottavaOf BeatTail.tailByte BeatTail.tail BeatBeat.beatNotes BeatBeat.beatBy BeatBeat.beat BeatBeat.noBeat ScoreFile.song ScoreFile.voices ScoreFile.oneHeader ScoreFile.headers ScoreFile.oneTrack ScoreFile.tracks ScoreFile.oneBeat ScoreFile.voice ScoreFile.barTrack ScoreFile.bar ScoreFile.bars ScoreFile.score ScoreFile.file ScoreSounding.sounding ScoreMembers.inOrder ScoreMembers.memberOf ScoreMembers.graceMember ScoreRows.noteMarks ScoreRows.beatMarks ScoreRows.marksOf ScoreRows.playedWith ScoreRows.restRow ScoreRows.chordRow ScoreRows.graceRow ScoreRows.rowsOf ScoreBars.several ScoreBars.directionAt ScoreBars.keyChanged ScoreBars.timeChanged ScoreBars.barOf ScoreBars.noBar ScoreLosses.headerLosses ScoreLosses.trackLosses ScoreLosses.readingLosses ScoreLosses.buildingLosses ScorePage.rowEntry ScorePage.trackEntry ScorePage.addHeader ScorePage.addTrack ScorePage.keepRow ScorePage.enterBar ScorePage.addBeat ScorePage.noBars ScorePage.noTracks ScorePage.noBeats ScoreScore.scored Count.ones Count.onesIn Count.trailingZeros
 as-the-oracle = record { of221 = refl; of218 = refl; of196 = refl; of223 = refl; of64 = refl; of217 = refl }

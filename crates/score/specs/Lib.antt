@@ -3,9 +3,12 @@ pub mod Examples
 pub mod Sounding
 pub mod Members
 pub mod Rows
-pub mod Passes
 pub mod Bars
 pub mod Losses
+pub mod Page
 pub mod Score
+pub mod Reading
+pub mod Facts
+pub mod Follow
 pub mod Summary
 pub mod Files

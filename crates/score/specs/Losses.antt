@@ -1,6 +1,6 @@
 -- Losses: each report adds one. Those of reading a beat count whether it is kept or not, those of building a row only where it is.
 -- Assumes nothing.
-use Prim.Native.Nat.{ℕ, zero, suc, _+_, _-_, _^_}
+use Prim.Native.Nat.{ℕ, zero, suc, _+_}
 use mathlib.Core.List.{List, [], _∷_, _++_}
 use mathlib.Core.Bool.{Bool, true, false, not, _&&_}
 use lib.Dec.{eqb}
@@ -9,13 +9,14 @@ use Rattle.model.specs.declared.Loss.the-variants as L
 use Rattle.model.specs.Answers.{lossNumber}
 use Rattle.song.specs.declared.header.Header.{Header}
 use Rattle.song.specs.declared.track.Track.{Track}
-use Rattle.song.specs.Header.{has}
+use Rattle.beat.specs.Optional.{has}
 use Rattle.beat.specs.declared.note.LeftHand.{LeftHand}
 use Rattle.beat.specs.declared.note.LeftHand.the-variants as H
 use Rattle.beat.specs.declared.effects.BeatEffects.{BeatEffects}
 use Rattle.beat.specs.declared.mix.Mix.{Mix}
 use Rattle.beat.specs.declared.note.NoteRead.{NoteRead}
 use Rattle.beat.specs.Note.{NoteIs}
+use Rattle.beat.specs.Notes.{stringBit}
 use Rattle.beat.specs.Beat.{BeatIs}
 use Rattle.format.specs.Text.{pick}
 use Rattle.score.specs.Members.{Keyed, Graced, graces}
@@ -40,15 +41,15 @@ unfoldable pub trackLosses : Track → List Loss
 trackLosses t = reportIf (t .percussion) L.DrumKit
 
 -- ---- of reading a beat
-abbrev effectLosses : BeatEffects → List Loss
+abbrev pub effectLosses : BeatEffects → List Loss
 effectLosses e =
     reportIf (e .«swell_lost») L.UnsupportedVolumeSwell ++ reportIf (e .«rasgueado_lost») L.UnsupportedRasgueado
     ++ reportIf (e .«tapping_lost») L.UnsupportedTapping ++ reportIf (e .«whammy_lost») L.UnsupportedWhammy
 
-abbrev mixLosses : Mix → List Loss
+abbrev pub mixLosses : Mix → List Loss
 mixLosses m = reportIf (m .«wah_lost») L.UnsupportedWah ++ reportIf (m .«change_lost») L.UnsupportedMixChange
 
-abbrev noteLosses : NoteRead → List Loss
+abbrev pub noteLosses : NoteRead → List Loss
 noteLosses n =
     reportIf (n .«right_hand_lost») L.UnsupportedRightHandFingering ++ reportIf (n .effects .slide .lost) L.UnsupportedSlideType
     ++ reportIf (n .effects .«harmonic_lost») L.HarmonicType
@@ -57,7 +58,7 @@ noteLosses n =
 abbrev pub notesLosses : ℕ → ℕ → List NoteIs → List Loss
 notesLosses strings i [] = []
 notesLosses strings i (n ∷ ns) =
-    pick (has strings (2 ^ (6 - i))) (noteLosses (n .read)) [] ++ notesLosses strings (i + 1) ns
+    pick (has strings (stringBit i)) (noteLosses (n .read)) [] ++ notesLosses strings (i + 1) ns
 
 unfoldable pub readingLosses : BeatIs → List Loss
 readingLosses b =
@@ -65,12 +66,12 @@ readingLosses b =
     ++ notesLosses (b .strings) 0 (b .notes)
 
 -- ---- of building its row
-abbrev isBeyond : LeftHand → Bool
+abbrev pub isBeyond : LeftHand → Bool
 isBeyond H.NoFinger = false
 isBeyond (H.Finger n) = false
 isBeyond H.Beyond = true
 
-abbrev builtLosses : NoteRead → List Loss
+abbrev pub builtLosses : NoteRead → List Loss
 builtLosses n =
     reportIf (n .effects .«palm_mute» && n .effects .«let_ring») L.LetRingWithPalmMute
     ++ reportIf (isBeyond (n .«left_hand»)) L.UnsupportedFingering
@@ -83,7 +84,7 @@ abbrev pub graceLosses : List Graced → List Loss
 graceLosses [] = []
 graceLosses (g ∷ gs) = reportIf (g .grace .«on_beat») L.OnBeatGrace ++ graceLosses gs
 
-abbrev isRest : List Keyed → Bool
+abbrev pub isRest : List Keyed → Bool
 isRest [] = true
 isRest (x ∷ xs) = false
 

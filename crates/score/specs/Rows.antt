@@ -24,15 +24,16 @@ use Rattle.model.specs.declared.Member.{Member}
 use Rattle.model.specs.declared.Point.{Point}
 use Rattle.model.specs.declared.RowKind.{RowKind}
 use Rattle.model.specs.declared.RowKind.the-variants as K
-use Rattle.model.specs.Marks.{addOnce}
+use Rattle.model.specs.declared.Articulations.{Articulations}
+use Rattle.model.specs.declared.Place.{Place}
+use Rattle.model.specs.Marks.{addOnce, packed}
 use Rattle.curve.specs.Bend.{pointOf, finish}
 use Rattle.curve.specs.Level.{chordOf, levelAfter}
 use Rattle.curve.specs.declared.level.Level.{Level}
 use Rattle.curve.specs.declared.level.Level.the-variants.{Absent}
 use Rattle.curve.specs.declared.level.NoteLevel.{NoteLevel}
 use Rattle.curve.specs.declared.slide.SlideEffect.{SlideEffect}
-use Rattle.song.specs.declared.track.Track.{Track}
-use Rattle.song.specs.Header.{has}
+use Rattle.beat.specs.Optional.{has}
 use Rattle.beat.specs.declared.effects.BeatEffects.{BeatEffects}
 use Rattle.beat.specs.declared.marks.NoteEffects.{NoteEffects}
 use Rattle.beat.specs.declared.note.NoteRead.{NoteRead}
@@ -42,13 +43,12 @@ use Rattle.beat.specs.declared.marks.Tremolo.{Tremolo}
 use Rattle.beat.specs.declared.marks.Tremolo.the-variants.{NoTremolo, Strokes}
 use Rattle.beat.specs.Points.{BendPoint}
 use Rattle.beat.specs.Beat.{BeatIs}
+use Rattle.score.specs.declared.Fretboard.{Fretboard}
 use Rattle.score.specs.Members.{Keyed, Graced, graces, memberOf, graceMember}
 
--- a row with what belongs to it; which entries of the tables these are is said later
+-- a row with what belongs to it: which entries of the tables these become is said in Page
 pub record RowIs : Type 0 where
-  pub bar : ℕ
-  pub track : ℕ
-  pub voice : ℕ
+  pub place : Place
   pub kind : RowKind
   pub rest : Bool
   pub value : NoteValue
@@ -57,35 +57,35 @@ pub record RowIs : Type 0 where
   pub technique : Technique
   pub curve : List Point
   pub dynamic : Level
-  pub marks : List Articulation
+  pub articulations : Articulations
   pub arpeggio : Arpeggio
   pub head : NoteHead
   pub ottava : Ottava
   pub chord : Range
 
-abbrev noteOf : Keyed → NoteRead
+abbrev pub noteOf : Keyed → NoteRead
 noteOf x = x .sound .note .read
 
 -- ---- articulations in the order added: for each member marcato or else accent, vibrato, falloff, doit, scoop, plop, staccato,
 -- harmonic, trill, tremolo; after all members up or down bow, vibrato, tap; none twice
-abbrev only : Bool → Articulation → List Articulation
+abbrev pub only : Bool → Articulation → List Articulation
 only true a = a ∷ []
 only false a = []
 
-abbrev strokes : ℕ → Articulation
+abbrev pub strokes : ℕ → Articulation
 strokes n = pick (eqb n 1) A.Tremolo1 (pick (eqb n 2) A.Tremolo2 A.Tremolo3)
 
-abbrev tremolos : Tremolo → List Articulation
+abbrev pub tremolos : Tremolo → List Articulation
 tremolos NoTremolo = []
 tremolos (Strokes n) = strokes n ∷ []
 
-abbrev slides : SlideEffect → List Articulation
+abbrev pub slides : SlideEffect → List Articulation
 slides s = only (s .falloff) A.Falloff ++ only (s .doit) A.Doit ++ only (s .scoop) A.Scoop ++ only (s .plop) A.Plop
 
-abbrev accents : NoteRead → List Articulation
+abbrev pub accents : NoteRead → List Articulation
 accents n = pick (n .«heavy_accent») (A.Marcato ∷ []) (only (n .accent) A.Accent)
 
-abbrev harmonics : NoteRead → BeatEffects → Bool
+abbrev pub harmonics : NoteRead → BeatEffects → Bool
 harmonics n e = n .effects .harmonic || (e .«natural_harmonic» || e .«artificial_harmonic»)
 
 unfoldable pub noteMarks : BeatEffects → NoteRead → List Articulation
@@ -93,7 +93,7 @@ noteMarks e n =
     accents n ++ only (n .effects .vibrato) A.Vibrato ++ slides (n .effects .slide) ++ only (n .effects .staccato) A.Staccato
     ++ only (harmonics n e) A.Harmonic ++ only (n .effects .trill) A.Trill ++ tremolos (n .effects .tremolo)
 
-abbrev bows : PickStroke → List Articulation
+abbrev pub bows : PickStroke → List Articulation
 bows P.NoStroke = []
 bows P.Up = A.UpBow ∷ []
 bows P.Down = A.DownBow ∷ []
@@ -105,7 +105,7 @@ abbrev pub addAll : List Articulation → List Articulation → List Articulatio
 addAll done [] = done
 addAll done (a ∷ more) = addAll (addOnce a done) more
 
-abbrev marksOfNotes : BeatEffects → List Keyed → List Articulation
+abbrev pub marksOfNotes : BeatEffects → List Keyed → List Articulation
 marksOfNotes e [] = []
 marksOfNotes e (x ∷ xs) = noteMarks e (noteOf x) ++ marksOfNotes e xs
 
@@ -132,7 +132,7 @@ noneYet Hammer = false
 noneYet PullOff = false
 noneYet Slide = false
 
-abbrev withText : NoteEffects → Played → Played
+abbrev pub withText : NoteEffects → Played → Played
 withText e p =
     record {
       text = pick (e .«palm_mute») PalmMute (pick (e .«let_ring» && noneText (p .text)) LetRing (p .text));
@@ -140,21 +140,21 @@ withText e p =
       bend = p .bend;
     }
 
-abbrev bent : List BendPoint → Bool
+abbrev pub bent : List BendPoint → Bool
 bent [] = false
 bent (x ∷ xs) = true
 
-abbrev withBend : List BendPoint → Played → Played
+abbrev pub withBend : List BendPoint → Played → Played
 withBend points p =
     pick (bent points && noneYet (p .technique)) (record { text = p .text; technique = Bend; bend = points }) p
 
-abbrev withHammer : NoteEffects → Played → Played
+abbrev pub withHammer : NoteEffects → Played → Played
 withHammer e p =
     pick (e .hammer && noneYet (p .technique))
     (record { text = pick (noneText (p .text)) HammerMark (p .text); technique = Hammer; bend = p .bend })
     p
 
-abbrev withSlide : NoteEffects → Played → Played
+abbrev pub withSlide : NoteEffects → Played → Played
 withSlide e p =
     pick (e .slide .slide && noneYet (p .technique)) (record { text = p .text; technique = Slide; bend = p .bend }) p
 
@@ -167,31 +167,29 @@ abbrev pub played : Played → List Keyed → Played
 played p [] = p
 played p (x ∷ xs) = played (playedWith p x) xs
 
-abbrev noPlay : Played
+abbrev pub noPlay : Played
 noPlay = record { text = NoText; technique = NoTechnique; bend = [] }
 
 -- one dead note gives the X head
-abbrev headOf : List Keyed → NoteHead
+abbrev pub headOf : List Keyed → NoteHead
 headOf [] = Normal
 headOf (x ∷ xs) = pick (noteOf x .dead) Cross (headOf xs)
 
-abbrev curveOf : List BendPoint → List Point
+abbrev pub curveOf : List BendPoint → List Point
 curveOf points = finish (map (λ p. pointOf (p .offset) (p .value)) points)
 
 abbrev pub levels : List Keyed → List NoteLevel
 levels [] = []
 levels (x ∷ xs) = noteOf x .level ∷ levels xs
 
-abbrev valueOf : BeatIs → NoteValue
+abbrev pub valueOf : BeatIs → NoteValue
 valueOf b = record { duration = b .head .duration; dot = has (b .head .flags) 0x01; tuplet = b .head .tuplet }
 
 -- ---- a beat's row; a rest keeps chord name, dot and tuplet, and beat effects and dynamic don't apply to it
-unfoldable pub restRow : ℕ → ℕ → ℕ → BeatIs → RowIs
-restRow bar track voice b =
+unfoldable pub restRow : Place → BeatIs → RowIs
+restRow place b =
     record {
-      bar = bar;
-      track = track;
-      voice = voice;
+      place = place;
       kind = K.Beat;
       rest = true;
       value = valueOf b;
@@ -200,29 +198,27 @@ restRow bar track voice b =
       technique = NoTechnique;
       curve = [];
       dynamic = Absent;
-      marks = [];
+      articulations = packed [];
       arpeggio = NoArpeggio;
       head = Normal;
       ottava = b .ottava;
       chord = b .chord .range;
     }
 
-unfoldable pub chordRow : ℕ → ℕ → ℕ → Track → Bool → ℕ → BeatIs → List Keyed → RowIs
-chordRow bar track voice t flat running b xs =
+unfoldable pub chordRow : Place → Fretboard → Bool → ℕ → BeatIs → List Keyed → RowIs
+chordRow place board flat running b xs =
     let p : Played = played noPlay xs in
     record {
-      bar = bar;
-      track = track;
-      voice = voice;
+      place = place;
       kind = K.Beat;
       rest = false;
       value = valueOf b;
-      members = map (memberOf t flat) xs;
+      members = map (memberOf board flat) xs;
       text = p .text;
       technique = p .technique;
       curve = curveOf (p .bend);
       dynamic = levelAfter running (chordOf (levels xs)) .mark;
-      marks = marksOf (b .effects) xs;
+      articulations = packed (marksOf (b .effects) xs);
       arpeggio = b .effects .brush;
       head = headOf xs;
       ottava = b .ottava;
@@ -231,34 +227,32 @@ chordRow bar track voice t flat running b xs =
 
 -- ---- a grace row: a 32nd, no dot, no tuplet, no ghost, tie, finger or dynamic. The last transition 1 or 3 sets the technique,
 -- but any 3 leaves the mark
-abbrev graceTechnique : Technique → List Graced → Technique
+abbrev pub graceTechnique : Technique → List Graced → Technique
 graceTechnique t [] = t
 graceTechnique t (g ∷ gs) =
     graceTechnique (pick (eqb (g .grace .transition) 1) Slide (pick (eqb (g .grace .transition) 3) Hammer t)) gs
 
-abbrev graceText : List Graced → TechniqueText
+abbrev pub graceText : List Graced → TechniqueText
 graceText [] = NoText
 graceText (g ∷ gs) = pick (eqb (g .grace .transition) 3) HammerMark (graceText gs)
 
-abbrev graceHead : List Graced → NoteHead
+abbrev pub graceHead : List Graced → NoteHead
 graceHead [] = Normal
 graceHead (g ∷ gs) = pick (g .grace .dead) Cross (graceHead gs)
 
-unfoldable pub graceRow : ℕ → ℕ → ℕ → Track → Bool → List Graced → RowIs
-graceRow bar track voice t flat gs =
+unfoldable pub graceRow : Place → Fretboard → Bool → List Graced → RowIs
+graceRow place board flat gs =
     record {
-      bar = bar;
-      track = track;
-      voice = voice;
+      place = place;
       kind = K.Grace;
       rest = false;
       value = record { duration = ThirtySecond; dot = false; tuplet = NoTuplet };
-      members = map (graceMember t flat) gs;
+      members = map (graceMember board flat) gs;
       text = graceText gs;
       technique = graceTechnique NoTechnique gs;
       curve = [];
       dynamic = Absent;
-      marks = [];
+      articulations = packed [];
       arpeggio = NoArpeggio;
       head = graceHead gs;
       ottava = NoOttava;
@@ -266,14 +260,14 @@ graceRow bar track voice t flat gs =
     }
 
 -- a grace row stands directly before its beat's row
-abbrev pub graceRows : ℕ → ℕ → ℕ → Track → Bool → List Graced → List RowIs
-graceRows bar track voice t flat [] = []
-graceRows bar track voice t flat (g ∷ gs) = graceRow bar track voice t flat (g ∷ gs) ∷ []
+abbrev pub graceRows : Place → Fretboard → Bool → List Graced → List RowIs
+graceRows place board flat [] = []
+graceRows place board flat (g ∷ gs) = graceRow place board flat (g ∷ gs) ∷ []
 
-abbrev pub beatRow : ℕ → ℕ → ℕ → Track → Bool → ℕ → BeatIs → List Keyed → RowIs
-beatRow bar track voice t flat running b [] = restRow bar track voice b
-beatRow bar track voice t flat running b (x ∷ xs) = chordRow bar track voice t flat running b (x ∷ xs)
+abbrev pub beatRow : Place → Fretboard → Bool → ℕ → BeatIs → List Keyed → RowIs
+beatRow place board flat running b [] = restRow place b
+beatRow place board flat running b (x ∷ xs) = chordRow place board flat running b (x ∷ xs)
 
-unfoldable pub rowsOf : ℕ → ℕ → ℕ → Track → Bool → ℕ → BeatIs → List Keyed → List RowIs
-rowsOf bar track voice t flat running b xs =
-    graceRows bar track voice t flat (graces xs) ++ (beatRow bar track voice t flat running b xs ∷ [])
+unfoldable pub rowsOf : Place → Fretboard → Bool → ℕ → BeatIs → List Keyed → List RowIs
+rowsOf place board flat running b xs =
+    graceRows place board flat (graces xs) ++ (beatRow place board flat running b xs ∷ [])

@@ -1,24 +1,29 @@
 -- Notes: which of a beat's notes sound, at which fret, and what their voice remembers. Assumes nothing.
-use Prim.Native.Nat.{ℕ, zero, suc, _+_, _-_, _^_}
+use Prim.Native.Nat.{ℕ, zero, suc, _+_}
 use mathlib.Core.List.{List, [], _∷_}
 use mathlib.Core.Bool.{Bool, _&&_}
 use lib.ListN.{getD, replicate, set}
 use lib.Dec.{ltb}
 use Rattle.format.specs.Text.{pick}
-use Rattle.song.specs.declared.track.Track.{Track}
-use Rattle.song.specs.Header.{has}
 use Rattle.beat.specs.declared.note.NoteRead.{NoteRead}
-use Rattle.beat.specs.Note.{NoteIs}
+use Rattle.beat.specs.Optional.{has}
+use Rattle.beat.specs.Note.{NoteIs, noNote}
+use Rattle.beat.specs.Notes.{stringBit}
 use Rattle.beat.specs.Beat.{BeatIs}
 use Rattle.score.specs.declared.LastFret.{LastFret}
 use Rattle.score.specs.declared.LastFret.the-variants.{NoFret, Fret}
+use Rattle.score.specs.declared.Remembered.{Remembered}
+use Rattle.score.specs.declared.Fretboard.{Fretboard}
 
 -- for each string of a voice, no fret or the last fret
 abbrev pub Memory : Type 0
-Memory = List LastFret
+Memory = List Remembered
+
+abbrev pub nothing : Remembered
+nothing = record { fret = NoFret }
 
 abbrev pub noMemory : Memory
-noMemory = replicate 7 NoFret
+noMemory = replicate 7 nothing
 
 -- a tie takes the remembered fret; without one it keeps the read fret
 abbrev pub fretOf : LastFret → NoteRead → ℕ
@@ -31,27 +36,30 @@ pub record Sounding : Type 0 where
   pub fret : ℕ
   pub note : NoteIs
 
--- note i is that of string bit 6 - i; a string past the track's strings is read and dropped
-abbrev pub sounds : Track → BeatIs → ℕ → Bool
-sounds track beat i = has (beat .strings) (2 ^ (6 - i)) && ltb i (track .strings .count)
+-- note i is that of string i, bit 6 - i; a string past the track's strings is read and dropped
+abbrev pub sounds : Fretboard → BeatIs → ℕ → Bool
+sounds board beat i = has (beat .strings) (stringBit i) && ltb i (board .strings .count)
 
-abbrev pub soundingAt : Memory → BeatIs → (i : ℕ) → NoteIs → Sounding
-soundingAt memory beat i note = record { string = i; fret = fretOf (getD memory i NoFret) (note .read); note = note }
+abbrev pub noteAt : BeatIs → ℕ → NoteIs
+noteAt beat i = getD (beat .notes) i noNote
+
+abbrev pub soundingAt : Memory → BeatIs → ℕ → Sounding
+soundingAt memory beat i =
+    record { string = i; fret = fretOf (getD memory i nothing .fret) (noteAt beat i .read); note = noteAt beat i }
 
 -- the notes from string i on, k of them: a note on a string changes the memory of that string alone, so each sees the memory
 -- that the beat began with
-unfoldable pub soundingFrom : ℕ → ℕ → Track → Memory → BeatIs → List NoteIs → List Sounding
-soundingFrom zero i track memory beat notes = []
-soundingFrom (suc k) i track memory beat [] = []
-soundingFrom (suc k) i track memory beat (n ∷ ns) =
-    pick (sounds track beat i)
-    (soundingAt memory beat i n ∷ soundingFrom k (i + 1) track memory beat ns)
-    (soundingFrom k (i + 1) track memory beat ns)
+abbrev pub soundingFrom : ℕ → ℕ → Fretboard → Memory → BeatIs → List Sounding
+soundingFrom zero i board memory beat = []
+soundingFrom (suc k) i board memory beat =
+    pick (sounds board beat i)
+    (soundingAt memory beat i ∷ soundingFrom k (i + 1) board memory beat)
+    (soundingFrom k (i + 1) board memory beat)
 
-unfoldable pub sounding : Track → Memory → BeatIs → List Sounding
-sounding track memory beat = soundingFrom 7 0 track memory beat (beat .notes)
+unfoldable pub sounding : Fretboard → Memory → BeatIs → List Sounding
+sounding board memory beat = soundingFrom 7 0 board memory beat
 
 -- reading a note changes that memory where it stands, kept beat or not
 abbrev pub remember : Memory → List Sounding → Memory
 remember memory [] = memory
-remember memory (x ∷ xs) = remember (set memory (x .string) (Fret (x .fret))) xs
+remember memory (x ∷ xs) = remember (set memory (x .string) (record { fret = Fret (x .fret) })) xs

@@ -1,0 +1,14 @@
+-- Field by field. Assumes nothing.
+use borrow.Author.Needs.{needs}
+use Rattle.score.specs.Members.{graceMember}
+use Rattle.draft.proofs.member.grace_member.Statement.{statement}
+use Rattle.draft.proofs.member.grace_member.Tie as tie
+
+pub grace-member-spec : {M : Type 1} → statement M
+unfolding graceMember
+grace-member-spec =
+    tie.close
+    (tie.spec
+    (λ c κs. search needs)
+    (λ c κs. search needs)
+    (λ c. rw (c .grace-key .ensures, c .before .position-of .ensures)))

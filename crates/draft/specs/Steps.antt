@@ -1,0 +1,70 @@
+-- What each note of a chord adds to its row. Assumes nothing.
+use Prim.Native.Nat.{ℕ}
+use mathlib.Core.List.{List, [], _∷_}
+use mathlib.Core.Bool.{Bool, true, false}
+use lib.Dec.{eqb}
+use Rattle.format.specs.Text.{pick}
+use Rattle.model.specs.declared.Articulation.{Articulation}
+use Rattle.model.specs.declared.Articulations.{Articulations}
+use Rattle.model.specs.declared.NoteHead.the-variants.{Cross}
+use Rattle.model.specs.declared.Technique.{Technique}
+use Rattle.model.specs.declared.Technique.the-variants.{NoTechnique, Hammer, Slide}
+use Rattle.model.specs.declared.TechniqueText.the-variants.{HammerMark}
+use Rattle.model.specs.Marks.{addMark}
+use Rattle.beat.specs.declared.marks.Grace.{Grace}
+use Rattle.beat.specs.declared.marks.GraceNote.{GraceNote}
+use Rattle.beat.specs.declared.marks.GraceNote.the-variants.{NoGrace, Before}
+use Rattle.beat.specs.declared.marks.NoteEffects.{NoteEffects}
+use Rattle.beat.specs.Points.{bendIn}
+use Rattle.beat.specs.Note.{NoteIs}
+use Rattle.score.specs.Members.{Graced}
+use Rattle.score.specs.Rows.{Played, withText, withBend, withHammer, withSlide, graceTechnique, graceText, graceHead}
+use Rattle.draft.specs.declared.played.Played.{Played as PlayedHere}
+use Rattle.draft.specs.declared.rows.Graces.{Graces}
+
+-- ---- technique and its text
+
+abbrev pub playedIn : List ℕ → PlayedHere → Played
+playedIn s p = record { text = p .text; technique = p .technique; bend = bendIn s (p .bend) }
+
+-- `playedWith` of Rows, which looks at the note alone
+unfoldable pub playedBy : NoteIs → Played → Played
+playedBy n p =
+    let e : NoteEffects = n .read .effects in
+    withSlide e (withHammer e (withBend (n .bend) (withText e p)))
+
+-- ---- articulations
+
+-- `addAll` of Rows, on what a row holds
+unfoldable pub addMarks : Articulations → List Articulation → Articulations
+addMarks m [] = m
+addMarks m (a ∷ more) = addMarks (addMark a m) more
+
+-- ---- graces
+
+abbrev pub anyOf : List Graced → Bool
+anyOf [] = false
+anyOf (g ∷ gs) = true
+
+-- what all graces of a chord give their row
+abbrev pub gracesOf : List Graced → Graces
+gracesOf gs =
+    record { any = anyOf gs; text = graceText gs; technique = graceTechnique NoTechnique gs; head = graceHead gs }
+
+-- one of `graceTechnique` of Rows
+abbrev pub techniqueBy : (transition : ℕ) → Technique → Technique
+techniqueBy n t = pick (eqb n 1) Slide (pick (eqb n 3) Hammer t)
+
+-- those before with one more
+unfoldable pub gracedBy : Grace → Graces → Graces
+gracedBy g x =
+    record {
+      any = true;
+      text = pick (eqb (g .transition) 3) HammerMark (x .text);
+      technique = techniqueBy (g .transition) (x .technique);
+      head = pick (g .dead) Cross (x .head);
+    }
+
+abbrev pub gracedIf : GraceNote → Graces → Graces
+gracedIf NoGrace x = x
+gracedIf (Before g) x = gracedBy g x

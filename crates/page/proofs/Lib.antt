@@ -1,0 +1,9 @@
+pub mod Places
+pub mod Counting
+pub mod Sums
+pub mod Bytes
+pub mod Picked
+pub mod Taken
+pub mod Entering
+pub mod Curves
+pub mod Rowing

@@ -1,0 +1,13 @@
+-- One after another. Assumes nothing.
+use Rattle.page.proofs.Counting.{reports-append}
+use borrow.Author.Needs.{needs}
+use Rattle.page.proofs.losses.mix_losses.Statement.{statement}
+use Rattle.page.proofs.losses.mix_losses.Tie as tie
+
+pub mix-losses-spec : {M : Type 1} → statement M
+mix-losses-spec =
+    tie.close
+    (tie.spec
+    (λ c κs. search needs)
+    (λ c κs. search needs)
+    (λ c. rw (c .report-if2 .ensures, c .before .report-if .ensures) (simp reports-append)))

@@ -1,0 +1,17 @@
+-- By the mark. Assumes nothing.
+use mathlib.Core.Path.{refl, sym, _∙_}
+use Rattle.page.proofs.Picked.{picked, passed}
+use borrow.Author.Needs.{needs}
+use Rattle.page.proofs.rows.hammer_after.Statement.{statement}
+use Rattle.page.proofs.rows.hammer_after.Tie as tie
+
+pub hammer-after-spec : {M : Type 1} → statement M
+hammer-after-spec =
+    tie.close
+    (tie.spec
+    (λ c κs. search needs)
+    (λ c κs. search needs)
+    (λ c.
+    let test = c .before .before in
+    picked _ (sym (test .before .is-marked .ensures) ∙ test .if1 .taken) (rw (c .first-key .ensures)))
+    (λ c. passed _ (sym (c .before .is-marked .ensures) ∙ c .if1 .left) refl))

@@ -1,0 +1,24 @@
+-- Field by field. Assumes nothing.
+use borrow.Author.Needs.{needs}
+use Rattle.page.proofs.rows.playing_of.Statement.{statement}
+use Rattle.page.proofs.rows.playing_of.Tie as tie
+
+pub playing-of-spec : {M : Type 1} → statement M
+playing-of-spec =
+    tie.close
+    (tie.spec
+    (λ c κs. search needs)
+    (λ c κs. search needs)
+    (λ c. search needs)
+    (λ c κs. search needs)
+    (λ c κs. search needs)
+    (λ c κs. search needs)
+    (λ c.
+    let count = c .before .before .before in
+    rw (
+      count .before .text-left .ensures,
+      c .before .before .span-of .ensures,
+      count .point-count .ensures .is,
+      c .height-at .ensures,
+      c .before .curve-height .ensures,
+    )))

@@ -1,0 +1,24 @@
+-- By the hammer that waits. Assumes nothing.
+use mathlib.Core.Path.{refl, sym, _∙_}
+use Rattle.page.proofs.Picked.{picked, passed}
+use borrow.Author.Needs.{needs}
+use Rattle.page.proofs.rows.turn_hammer.Statement.{statement}
+use Rattle.page.proofs.rows.turn_hammer.Tie as tie
+
+pub turn-hammer-spec : {M : Type 1} → statement M
+turn-hammer-spec =
+    tie.close
+    (tie.spec
+    (λ c. search needs)
+    (λ c. search needs)
+    (λ c. rw (c .enum-told .given .1))
+    (λ c κs. search needs)
+    (λ c. search needs)
+    (λ c κs. search needs)
+    (λ c. search needs)
+    (λ c.
+    let test = c .before .before .before .before in
+    rw (test .before .before .before .hammer .given .1)
+    (picked _ (sym (test .before .pulls .ensures) ∙ test .if1 .taken) (c .before .before .set-technique .ensures)))
+    (λ c.
+    rw (c .before .before .before .hammer .given .1) (passed _ (sym (c .before .pulls .ensures) ∙ c .if1 .left) refl)))

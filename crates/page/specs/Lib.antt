@@ -1,0 +1,7 @@
+pub mod Words
+pub mod Reports
+pub mod Lent
+pub mod Meant
+pub mod Entry
+pub mod Heads
+pub mod Entered

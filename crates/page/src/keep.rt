@@ -1,0 +1,171 @@
+// The rows of a kept beat, entered one after another with their members and their curves.
+use crate::members;
+use crate::plus;
+use crate::points;
+use crate::rows;
+use beat::Beat;
+use curve::bend;
+use curve::bend::Slots;
+use draft::Chord;
+use draft::Draft;
+use model::Place;
+use model::RowKind;
+use model::Span;
+use score::Fretboard;
+use score::Kept;
+use score::Voice;
+ghost use mathlib.Core.Path.{_≡_};
+ghost use Rattle.beat.specs.Beat.{beatIn};
+ghost use Rattle.curve.specs.Slots.{shown};
+ghost use Rattle.score.specs.Page.{lastAfter, keepRow, keepRows, keepBeat};
+ghost use Rattle.score.specs.Members.{graces};
+ghost use Rattle.score.specs.Rows.{graceRows};
+ghost use Rattle.draft.specs.Meant.{chordIn, draftIn};
+ghost use Rattle.page.specs.Words.{words};
+ghost use Rattle.page.specs.Meant.{rowingOf, drawn, undrawn};
+ghost use Rattle.page.specs.Entry.{keptAfter, voiceAfter};
+
+// What is kept and what the voice remembers, once a row is entered.
+pub struct Rowed {
+    pub kept: Kept,
+    pub voice: Voice,
+}
+
+fn kept_after(draft: Draft, curve: Slots, kept: Kept) -> Kept
+    ensures { λ r. ⌜ r ≡ keptAfter (drawn (shown curve) draft) kept ⌝ }
+{
+    let members = draft.members;
+    Kept {
+        rows: plus(kept.rows, 1),
+        members: plus(kept.members, members::number_of(members) as u32),
+        points: plus(kept.points, bend::point_count(curve) as u32),
+    }
+}
+
+// A grace leaves the members that the next beat's ties may start on.
+fn last_after(kind: RowKind, own: Span, last: Span) -> Span
+    ensures { λ r. ⌜ r ≡ lastAfter kind own last ⌝ }
+{
+    match kind {
+        RowKind::Grace => last,
+        RowKind::Beat => own,
+    }
+}
+
+fn voice_after(draft: Draft, kept: Kept, voice: Voice) -> Voice
+    ensures { λ r. ⌜ r ≡ voiceAfter (undrawn draft) kept voice ⌝ }
+{
+    let frets = voice.frets;
+    let members = draft.members;
+    let kind = draft.kind;
+    let own = rows::span_of(kept.members, members::number_of(members) as u32);
+    let before = voice.last;
+    let last = last_after(kind, own, before);
+    let hammer = rows::hammer_after(kept.rows, draft);
+    let run_before = voice.run;
+    let run = rows::run_after(kept.rows, draft, run_before);
+    Voice {
+        frets,
+        hammer,
+        last,
+        run,
+    }
+}
+
+pub fn keep_row(
+    s: &[u8],
+    draft: Draft,
+    kept: Kept,
+    voice: Voice,
+    rows: &mut [u32],
+    members: &mut [u32],
+    points: &mut [u32],
+) -> Rowed
+    ensures { λ r. ⌜ rowingOf (now (rows .exit)) (now (members .exit)) (now (points .exit)) (r .kept) (r .voice)
+        ≡ keepRow (words (now (s .entry))) (draftIn (now (s .entry)) draft)
+        (rowingOf (now (rows .entry)) (now (members .entry)) (now (points .entry)) kept voice) ⌝ }
+{
+    let bend = draft.bend;
+    let added = draft.members;
+    let last = voice.last;
+    let curve = points::curve_of(s, bend);
+    rows::add_row(rows, draft, curve, kept, voice);
+    members::start_ties(members, last, added);
+    members::add_members(members, kept.members, added);
+    points::add_points(points, kept.points, curve);
+    let kept_now = kept_after(draft, curve, kept);
+    let voice_now = voice_after(draft, kept, voice);
+    Rowed {
+        kept: kept_now,
+        voice: voice_now,
+    }
+}
+
+// A grace row stands directly before its beat's row.
+fn keep_grace(
+    s: &[u8],
+    place: Place,
+    board: Fretboard,
+    flat: bool,
+    beat: Beat,
+    chord: Chord,
+    kept: Kept,
+    voice: Voice,
+    rows: &mut [u32],
+    members: &mut [u32],
+    points: &mut [u32],
+) -> Rowed
+    ensures { λ r. ⌜ rowingOf (now (rows .exit)) (now (members .exit)) (now (points .exit)) (r .kept) (r .voice)
+        ≡ keepRows (words (now (s .entry)))
+        (graceRows place board flat (graces (chordIn (now (s .entry)) (beat .notes) chord)))
+        (rowingOf (now (rows .entry)) (now (members .entry)) (now (points .entry)) kept voice) ⌝ }
+{
+    let notes = beat.notes;
+    if !draft::rows::has_grace(s, notes, chord) {
+        return Rowed { kept, voice };
+    }
+    let row = draft::rows::grace_row(s, place, board, flat, notes, chord);
+    keep_row(s, row, kept, voice, rows, members, points)
+}
+
+pub fn keep_beat(
+    s: &[u8],
+    place: Place,
+    board: Fretboard,
+    flat: bool,
+    running: u8,
+    beat: Beat,
+    chord: Chord,
+    kept: Kept,
+    voice: Voice,
+    rows: &mut [u32],
+    members: &mut [u32],
+    points: &mut [u32],
+) -> Rowed
+    ensures { λ r. ⌜ rowingOf (now (rows .exit)) (now (members .exit)) (now (points .exit)) (r .kept) (r .voice)
+        ≡ keepBeat (words (now (s .entry))) place board flat running (beatIn (now (s .entry)) beat)
+        (chordIn (now (s .entry)) (beat .notes) chord)
+        (rowingOf (now (rows .entry)) (now (members .entry)) (now (points .entry)) kept voice) ⌝ }
+{
+    let head = beat.head;
+    if !head.kept {
+        return Rowed { kept, voice };
+    }
+    let graced = keep_grace(
+        s,
+        place,
+        board,
+        flat,
+        beat,
+        chord,
+        kept,
+        voice,
+        rows,
+        members,
+        points,
+    );
+    let kept_now = graced.kept;
+    let voice_now = graced.voice;
+    let row = draft::rows::beat_row(s, place, board, flat, running, beat, chord);
+    keep_row(s, row, kept_now, voice_now, rows, members, points)
+}

@@ -1,0 +1,250 @@
+// The entry of a row, and what the row does to those of its voice before it.
+use crate::members;
+use curve::bend;
+use curve::bend::Slots;
+use curve::level::Level;
+use draft::Draft;
+use entries::rows::set_ottava_end;
+use entries::rows::set_technique;
+use entries::rows::store_row;
+use model::Dynamic;
+use model::Expression;
+use model::Height;
+use model::Ottava;
+use model::OttavaMarks;
+use model::Playing;
+use model::Row;
+use model::Span;
+use model::Technique;
+use model::TechniqueText;
+use model::kinds;
+use score::Hammer;
+use score::Kept;
+use score::OttavaRun;
+use score::Voice;
+ghost use mathlib.Core.Path.{_≡_};
+ghost use mathlib.Core.List.{[]};
+ghost use Prim.Native.Nat.{_*_};
+ghost use lib.Seq.{sets};
+ghost use Rattle.entries.specs.Words.{rowStride, rowWords};
+ghost use Rattle.curve.specs.Slots.{shown};
+ghost use Rattle.score.specs.Page.{spanOf, marked, textLeft, dynamicAt, heightAt, rowEntry};
+ghost use Rattle.score.specs.Page.{pulls, hammerAfter, turnHammer, under, sameKind, ottavaMarks, runAfter, turnRun};
+ghost use Rattle.page.specs.Words.{words};
+ghost use Rattle.page.specs.Meant.{drawn, undrawn};
+ghost use Rattle.page.specs.Entry.{playingOf, expressionOf};
+
+// ---- hammers and pull-offs
+
+fn is_marked(text: TechniqueText) -> bool
+    ensures { λ r. ⌜ r ≡ marked text ⌝ }
+{
+    match text {
+        TechniqueText::NoText => false,
+        TechniqueText::HammerMark => true,
+        TechniqueText::PalmMute => false,
+        TechniqueText::LetRing => false,
+    }
+}
+
+fn pulls(draft: Draft, key: u8) -> bool
+    ensures { λ r. ⌜ r ≡ pulls (undrawn draft) key ⌝ }
+{
+    let members = draft.members;
+    !draft.rest & members::lower_first(members, key)
+}
+
+// A row with the hammer mark turns pull-off when the next row of its voice is no rest and starts on a lower key.
+fn turn_hammer(rows: &mut [u32], hammer: Hammer, draft: Draft)
+    ensures { λ _. ⌜ now (rows .exit) ≡ turnHammer (words []) hammer (undrawn draft) (now (rows .entry)) ⌝ }
+{
+    let Hammer::Waits(n, key) = hammer else {
+        return;
+    };
+    if pulls(draft, key) {
+        set_technique(rows, n as usize, Technique::PullOff);
+    }
+}
+
+pub(crate) fn hammer_after(n: u32, draft: Draft) -> Hammer
+    ensures { λ r. ⌜ r ≡ hammerAfter n (undrawn draft) ⌝ }
+{
+    let text = draft.text;
+    if is_marked(text) {
+        let members = draft.members;
+        return Hammer::Waits(n, members::first_key(members));
+    }
+    Hammer::NoHammer
+}
+
+// ---- ottavas
+
+fn is_under(draft: Draft) -> bool
+    ensures { λ r. ⌜ r ≡ under (undrawn draft) ⌝ }
+{
+    let ottava = draft.ottava;
+    (kinds::ottava_word(ottava) != 0) & !draft.rest
+}
+
+fn same_kind(draft: Draft, run: OttavaRun) -> bool
+    ensures { λ r. ⌜ r ≡ sameKind (undrawn draft) run ⌝ }
+{
+    let ottava = draft.ottava;
+    match run {
+        OttavaRun::NoRun => false,
+        OttavaRun::Over(_, kind) => kinds::ottava_word(ottava) == kinds::ottava_word(kind),
+    }
+}
+
+// A row under the ottava of the row before it carries that on: it does not end there.
+fn turn_run(rows: &mut [u32], run: OttavaRun, draft: Draft)
+    ensures { λ _. ⌜ now (rows .exit) ≡ turnRun (words []) run (undrawn draft) (now (rows .entry)) ⌝ }
+{
+    let OttavaRun::Over(n, _) = run else {
+        return;
+    };
+    if is_under(draft) & same_kind(draft, run) {
+        set_ottava_end(rows, n as usize, false);
+    }
+}
+
+fn ottava_marks(draft: Draft, run: OttavaRun) -> OttavaMarks
+    ensures { λ r. ⌜ r ≡ ottavaMarks (undrawn draft) run ⌝ }
+{
+    let end = is_under(draft);
+    if end & !same_kind(draft, run) {
+        let start = draft.ottava;
+        return OttavaMarks { start, end };
+    }
+    OttavaMarks {
+        start: Ottava::NoOttava,
+        end,
+    }
+}
+
+// A rest of the ottava's kind neither ends nor extends it.
+pub(crate) fn run_after(n: u32, draft: Draft, run: OttavaRun) -> OttavaRun
+    ensures { λ r. ⌜ r ≡ runAfter n (undrawn draft) run ⌝ }
+{
+    let ottava = draft.ottava;
+    if is_under(draft) {
+        return OttavaRun::Over(n, ottava);
+    }
+    if draft.rest & same_kind(draft, run) {
+        return run;
+    }
+    OttavaRun::NoRun
+}
+
+// ---- the entry
+
+pub(crate) fn span_of(first: u32, count: u32) -> Span
+    ensures { λ r. ⌜ r ≡ spanOf first count ⌝ }
+{
+    if count == 0 {
+        return Span { first: 0, count: 0 };
+    }
+    Span { first, count }
+}
+
+// The hammer mark stands in no finished row.
+fn text_left(text: TechniqueText) -> TechniqueText
+    ensures { λ r. ⌜ r ≡ textLeft text ⌝ }
+{
+    if is_marked(text) {
+        return TechniqueText::NoText;
+    }
+    text
+}
+
+fn dynamic_at(level: Level) -> Dynamic
+    ensures { λ r. ⌜ r ≡ dynamicAt level ⌝ }
+{
+    match level {
+        Level::Absent => Dynamic::NoDynamic,
+        Level::Given(n) => kinds::dynamic_of(kinds::byte_word(n)),
+    }
+}
+
+fn height_at(height: bend::Height) -> Height
+    ensures { λ r. ⌜ r ≡ heightAt height ⌝ }
+{
+    match height {
+        bend::Height::Absent => Height::NoHeight,
+        bend::Height::Given(c) => Height::Peak(c),
+    }
+}
+
+fn playing_of(draft: Draft, curve: Slots, first: u32) -> Playing
+    ensures { λ r. ⌜ r ≡ playingOf (drawn (shown curve) draft) first ⌝ }
+{
+    let text = draft.text;
+    let technique = draft.technique;
+    let left = text_left(text);
+    let span = span_of(first, bend::point_count(curve) as u32);
+    let height = height_at(bend::curve_height(curve));
+    Playing {
+        text: left,
+        technique,
+        curve: span,
+        height,
+    }
+}
+
+fn expression_of(draft: Draft) -> Expression
+    ensures { λ r. ⌜ r ≡ expressionOf (undrawn draft) ⌝ }
+{
+    let level = draft.dynamic;
+    let dynamic = dynamic_at(level);
+    let articulations = draft.articulations;
+    let arpeggio = draft.arpeggio;
+    let head = draft.head;
+    Expression {
+        dynamic,
+        articulations,
+        arpeggio,
+        head,
+    }
+}
+
+fn row_entry(draft: Draft, curve: Slots, marks: OttavaMarks, kept: Kept) -> Row
+    ensures { λ r. ⌜ r ≡ rowEntry (drawn (shown curve) draft) marks kept ⌝ }
+{
+    let place = draft.place;
+    let kind = draft.kind;
+    let value = draft.value;
+    let members = draft.members;
+    let span = span_of(kept.members, members::number_of(members) as u32);
+    let playing = playing_of(draft, curve, kept.points);
+    let expression = expression_of(draft);
+    let chord = draft.chord;
+    let finger = members::plain_finger(members);
+    Row {
+        place,
+        kind,
+        rest: draft.rest,
+        value,
+        members: span,
+        playing,
+        expression,
+        ottava: marks,
+        chord,
+        finger,
+    }
+}
+
+pub(crate) fn add_row(rows: &mut [u32], draft: Draft, curve: Slots, kept: Kept, voice: Voice)
+    ensures { λ _. ⌜ now (rows .exit)
+        ≡ sets
+        (turnRun (words []) (voice .run) (undrawn draft)
+        (turnHammer (words []) (voice .hammer) (undrawn draft) (now (rows .entry))))
+        (kept .rows * rowStride)
+        (rowWords (rowEntry (drawn (shown curve) draft) (ottavaMarks (undrawn draft) (voice .run)) kept)) ⌝ }
+{
+    let hammer = voice.hammer;
+    let run = voice.run;
+    turn_hammer(rows, hammer, draft);
+    turn_run(rows, run, draft);
+    let row = row_entry(draft, curve, ottava_marks(draft, run), kept);
+    store_row(rows, kept.rows as usize, row);
+}

@@ -1,0 +1,43 @@
+-- The three ways in which a reading ends. Assumes nothing.
+use Prim.Native.Nat.{ℕ, _*_, _≤_}
+use mathlib.Core.Path.{_≡_, refl, sym, _∙_}
+use mathlib.Core.Bool.{true, false}
+use mathlib.Core.List.{List}
+use lib.Dec.{ltb}
+use lib.ListN.{length}
+use Rattle.format.specs.declared.Place.{Place}
+use Rattle.format.specs.declared.Place.the-variants.{At, Stopped}
+use Rattle.format.specs.declared.Stop.{Stop}
+use Rattle.format.specs.Outcome.{LIMIT, upTo}
+use Rattle.format.specs.Yields.{Bytes}
+use Rattle.model.specs.declared.Answer.{Answer}
+use Rattle.model.specs.Answers.{refusal, noRoomAnswer}
+use Rattle.score.specs.declared.Tally.{Tally}
+use Rattle.score.specs.Reading.{Tables, refused, enough, songOf, reading}
+use Rattle.refine.specs.Rooms.{neededBy}
+use Rattle.refine.specs.Returns.{stopAnswer, refused-is, no-room-is, never-stops, read-is}
+use Rattle.reader.specs.declared.front.SongRead.{SongRead}
+use Rattle.reader.specs.Passed.{wholeOf}
+use Rattle.reader.specs.Result.{FirstPass, Fills}
+
+-- one place is one position
+pub at-same : {p : Place} {m n : ℕ} → p ≡ At m → p ≡ At n → m ≡ n
+at-same e f = cc
+
+module _ (d : List ℕ) (bytes : Bytes d) (t : Tables) {s : List ℕ} (is : s ≡ upTo LIMIT d) {song : SongRead} {tally : Tally} where
+  pub ends-refused : {at : Place} {x : Stop} → FirstPass s song tally at → at ≡ Stopped x
+      → refused (refusal (stopAnswer (ltb LIMIT (length d)) x)) t ≡ reading d t
+  ends-refused {x = x} f e = sym (refused-is d bytes t (f .before) (f .own) x (rw (e, is) at (f .passes .reaches .reaches)))
+
+  module _ {at : Place} {n : ℕ} (f : FirstPass s song tally at) (e : at ≡ At n) where
+    pub ends-short : enough (neededBy (song .counts) tally) t ≡ false → refused (noRoomAnswer (neededBy (song .counts) tally)) t ≡ reading d t
+    ends-short h = sym (no-room-is d bytes t (f .before) (f .own) _ n (rw (e, is) at (f .passes .reaches .reaches)) h)
+
+    pub ends-read : enough (neededBy (song .counts) tally) t ≡ true → (after : Tables) (answer : Answer) → Fills s t after answer
+        → record { answer = answer; tables = after } ≡ reading d t
+    unfolding songOf
+    ends-read h after answer w = go (w .next) refl
+      where
+        go : (to : Place) → w .next ≡ to → record { answer = answer; tables = after } ≡ reading d t
+        go (At m) g = rw (w .answers m g) (sym (read-is d bytes t (f .before) (f .own) _ n (rw (e, is) at (f .passes .reaches .reaches)) (w .parts) (w .own) h _ m (rw (g, is) at (w .passes .reaches .reaches))))
+        go (Stopped x) g = absurd (never-stops d bytes t (f .before) (f .own) _ n (rw (e, is) at (f .passes .reaches .reaches)) (w .parts) (w .own) x (rw (g, is) at (w .passes .reaches .reaches)))

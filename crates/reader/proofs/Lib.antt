@@ -1,0 +1,4 @@
+pub mod Beats
+pub mod Places
+pub mod Passing
+pub mod Ends

@@ -1,0 +1,18 @@
+-- By the length. Assumes nothing.
+use borrow.Author.Needs.{needs}
+use native.Mathlib.Omega.{arith}
+use mathlib.Core.Path.{refl, sym}
+use lib.Seq.{length-take-le}
+use Rattle.format.specs.Outcome.{upTo}
+use Rattle.score.specs.Follow.{upto-all}
+use Rattle.reader.proofs.up_to.Statement.{statement}
+use Rattle.reader.proofs.up_to.Tie as tie
+
+pub up-to-spec : {M : Type 1} → statement M
+unfolding upTo
+up-to-spec =
+    tie.close
+    (tie.spec
+    (λ c. sym (length-take-le _ _ (omega (arith, c .before .if1 .taken))))
+    (λ c. refl)
+    (λ c. sym (upto-all (c .before .args .n) (c .before .args .«data» .now) (omega (arith, c .if1 .left)))))
