@@ -1,0 +1,28 @@
+-- The loop ends with the last record. Assumes nothing.
+use Prim.Native.Nat.{_≤_, _-_}
+use borrow.Author.Needs.{needs}
+use Rattle.replay.proofs.replay_all.Statement.{statement}
+use Rattle.replay.proofs.replay_all.Tie as tie
+
+abbrev Inv-loop : tie.InvT-loop
+Inv-loop page₀ list count at₀ differ₀ i₀ page at differ i = i ≤ count
+
+abbrev μ-loop : tie.MeasureT-loop
+μ-loop page₀ list count at₀ differ₀ i₀ page at differ i = count - i
+
+pub replay-all-spec : {M : Type 1} → statement M
+replay-all-spec =
+    tie.close
+    (tie.spec
+    Inv-loop
+    μ-loop
+    (λ c. search needs)
+    (λ c κs. search needs)
+    (λ c. search needs)
+    (λ c. search needs)
+    (λ c. search needs)
+    (λ c κs. search needs)
+    (λ c. search needs)
+    (λ c. search needs)
+    (λ c. search needs)
+    (λ c. search needs))

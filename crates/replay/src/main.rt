@@ -1,0 +1,200 @@
+// Reads every input of the list on standard input, and holds the answer and the dump to what the list says of it (tests/README.md
+// has the list's form). A line names each input that differs, and in what; the last line counts them.
+use entries::bars::BAR_WORDS;
+use entries::members::MEMBER_WORDS;
+use entries::points::POINT_WORDS;
+use entries::rows::ROW_WORDS;
+use entries::texts::TEXT_WORDS;
+use entries::tracks::TRACK_WORDS;
+use format::Place;
+use model::Answer;
+use model::answers;
+use show::form::PAGE;
+use show::input::Input;
+
+// Bytes of a list.
+const ROOM: usize = 1048576;
+
+// The list's first four bytes; the words of a record, and its bytes, before its input.
+const MAGIC: u32 = 1279676487;
+
+const WORDS: usize = 37;
+
+const RECORD: usize = 148;
+
+const STDERR: i32 = 2;
+
+// What differs, and where the list goes on.
+struct Replayed {
+    differ: u32,
+    next: Place,
+}
+
+// The words of a record of this answer.
+fn answer_words(words: &mut [u32; WORDS], number: u32, length: u32, answer: Answer, digest: u64) {
+    let outcome = answer.outcome;
+    let losses = answer.losses;
+    let head = [
+        number,
+        length,
+        answers::outcome_number(outcome),
+        answers::outcome_which(outcome),
+        bin::signed::from_i32(answers::outcome_value(outcome)),
+        tables::low(answer.song.used),
+        answer.counts.bars,
+        answer.counts.tracks,
+        answer.counts.rows,
+        answer.counts.members,
+        answer.counts.points,
+        answer.counts.texts,
+        answer.rooms.bars,
+        answer.rooms.tracks,
+        answer.rooms.rows,
+        answer.rooms.members,
+        answer.rooms.points,
+        answer.rooms.texts,
+    ];
+    let lost = answers::loss_words(losses);
+    let halves = [(digest % 4294967296) as u32, (digest / 4294967296) as u32];
+    tables::store_words(words, 0, &head);
+    tables::store_words(words, 18, &lost);
+    tables::store_words(words, 35, &halves);
+}
+
+// The words of a record of this input, which is read.
+fn read_words(words: &mut [u32; WORDS], page: &mut [u8; PAGE], number: u32, input: &[u8]) {
+    let mut bars = [0u32; 4 * BAR_WORDS];
+    let mut tracks = [0u32; 100 * TRACK_WORDS];
+    let mut rows = [0u32; 1024 * ROW_WORDS];
+    let mut members = [0u32; 128 * MEMBER_WORDS];
+    let mut points = [0u32; 1024 * POINT_WORDS];
+    let mut texts = [0u32; 16 * TEXT_WORDS];
+    let answer = reader::read(
+        input,
+        &mut bars,
+        &mut tracks,
+        &mut rows,
+        &mut members,
+        &mut points,
+        &mut texts,
+    );
+    let s = show::dump(
+        page,
+        show::DIGESTED,
+        input,
+        answer,
+        &bars,
+        &tracks,
+        &rows,
+        &members,
+        &points,
+        &texts,
+    );
+    let s = show::flush(page, s);
+    answer_words(words, number, tables::low(input.len()), answer, s.digest);
+}
+
+// Names the words in which the record at a place differs, in a line; gives how many they are.
+fn name_differences(page: &mut [u8; PAGE], list: &[u8], from: Place, words: &[u32; WORDS]) -> u32 {
+    let mut s = show::PRINTED;
+    let mut at = from;
+    let mut differ: u32 = 0;
+    let mut k: u32 = 0;
+    while k < 37 {
+        let read = bin::u32_at(list, at);
+        at = read.next;
+        if read.value != words[k as usize] {
+            s = show::entries(
+                page,
+                s,
+                b"!0{input #1: |, }?2{number|length|outcome|which|value|used|bars|tracks|rows|members|points|texts|\
+                  room for bars|room for tracks|room for rows|room for members|room for points|room for texts|\
+                  drum-kit|harmonic-type|let-ring-with-palm-mute|on-beat-grace|repeat-count|triplet-feel|\
+                  chord-diagram|direction|fingering|mix-change|rasgueado|right-hand-fingering|slide-type|tapping|\
+                  volume-swell|wah|whammy|low half of the dump's digest|high half of the dump's digest}",
+                &[differ, words[0], k],
+                3,
+                1,
+            );
+            differ = tables::up(differ);
+        }
+        k += 1;
+    }
+    s = show::entries(page, s, b"!0{|\n}", &[differ], 1, 1);
+    show::flush(page, s);
+    differ
+}
+
+// One record: in how many words it differs.
+fn replay_one(page: &mut [u8; PAGE], list: &[u8], from: Place, number: u32) -> Replayed {
+    let length = bin::u32_at(list, bin::skip_at(list, from, 4)).value;
+    let body = bin::skip_at(list, from, RECORD);
+    let next = bin::skip_at(list, body, length as usize);
+    let Place::At(start) = body else {
+        return Replayed { differ: 0, next };
+    };
+    let Place::At(end) = next else {
+        return Replayed { differ: 0, next };
+    };
+    let mut words = [0u32; WORDS];
+    read_words(&mut words, page, number, bin::text(list, start, end));
+    let differ = name_differences(page, list, from, &words);
+    Replayed { differ, next }
+}
+
+// Every record, as far as the list goes: how many differ.
+fn replay_all(page: &mut [u8; PAGE], list: &[u8], count: u32) -> Replayed {
+    let mut at = Place::At(8);
+    let mut differ: u32 = 0;
+    let mut i: u32 = 0;
+    while i < count {
+        let one = replay_one(page, list, at, i);
+        at = one.next;
+        let Place::At(_) = at else {
+            return Replayed { differ, next: at };
+        };
+        if 0 < one.differ {
+            differ = tables::up(differ);
+        }
+        i += 1;
+    }
+    Replayed { differ, next: at }
+}
+
+fn replay(input: &mut [u8; ROOM]) {
+    let Input::Bytes(n) = show::input::read(input) else {
+        io::write_all(STDERR, b"replay: standard input could not be read\n");
+        return;
+    };
+    let list = bin::text(input, 0, n);
+    if bin::u32_at(list, Place::At(0)).value != MAGIC {
+        io::write_all(STDERR, b"replay: no list\n");
+        return;
+    }
+    let mut page = io::large_buffer();
+    let count = bin::u32_at(list, Place::At(4)).value;
+    let all = replay_all(&mut page, list, count);
+    let next = all.next;
+    let Place::At(end) = next else {
+        io::write_all(STDERR, b"replay: the list ends within a record\n");
+        return;
+    };
+    if end != n {
+        io::write_all(STDERR, b"replay: the list goes on after its last record\n");
+        return;
+    }
+    let s = show::entries(
+        &mut page,
+        show::PRINTED,
+        b"replay: #0 inputs, #1 differ\n",
+        &[count, all.differ],
+        2,
+        1,
+    );
+    show::flush(&page, s);
+}
+
+fn main() {
+    let mut input = [0u8; ROOM];
+    replay(&mut input);
+}
