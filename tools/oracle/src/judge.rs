@@ -152,7 +152,7 @@ impl Refusal {
     }
 
     /// The Rust tells its refusals apart by their words alone.
-    fn of(error: &Error) -> Self {
+    pub fn of(error: &Error) -> Self {
         match error {
             Error::Empty => Self::plain(4),
             Error::TooLong => Self::plain(5),

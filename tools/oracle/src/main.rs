@@ -21,6 +21,7 @@ mod trial;
 mod writer;
 
 use judge::{Six, judge};
+use std::hint::black_box;
 use std::io::{BufWriter, Read, Write, stdin, stdout};
 use std::path::{Path, PathBuf};
 
@@ -30,6 +31,7 @@ oracle listing PATH...                                 the listing program's lin
     PATH is a file, a folder, - for standard input, or @LIST, a file of paths, one to a line
 oracle make PROFILE SEED COUNT FOLDER                  writes files: valid damaged blanked cuts limits long
 oracle try SEED COUNT [PERCENT]                        runs over files made in memory
+oracle again COUNT PATH                                reads a file COUNT times (tools/bench)
 oracle fixed-list FILE INDEX                           writes the fixed list (oracle-branches alone)
 oracle replay FILE                                     holds the oracle to the fixed list";
 
@@ -136,6 +138,19 @@ fn number_of<T: std::str::FromStr>(word: &str) -> T {
         .unwrap_or_else(|_| fail(&format!("{word} is no number")))
 }
 
+/// Reads the file so many times with the Rust alone, each time whole: the Rust's answer is made and
+/// dropped. Writes what the last reading gave, as the program again does.
+fn read_again(count: usize, data: &[u8]) {
+    let mut given = (0, 0);
+    for _ in 0..count {
+        given = match black_box(gp::parse(black_box(data))) {
+            Ok((score, _)) => (0, score.handed.used),
+            Err(error) => (judge::Refusal::of(&error).outcome, 0),
+        };
+    }
+    println!("{} {}", given.0, given.1);
+}
+
 fn try_files(seed: &str, count: &str, percent: Option<&str>) -> bool {
     let trial = trial::run(number_of(seed), number_of(count), percent.map(number_of));
     let fine = trial.report();
@@ -156,6 +171,7 @@ fn run(words: &[String]) -> bool {
                 Path::new(folder),
             );
         }
+        ["again", count, path] => read_again(number_of(count), &read(Path::new(path))),
         ["try", seed, count] => return try_files(seed, count, None),
         ["try", seed, count, percent] => return try_files(seed, count, Some(percent)),
         ["fixed-list", list, index] => return fixed_list::write(Path::new(list), Path::new(index)),
