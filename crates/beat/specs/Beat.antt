@@ -6,6 +6,8 @@ use Rattle.model.specs.declared.Ottava.the-variants.{NoOttava}
 use Rattle.format.specs.Text.{Text, noText, textIn}
 use Rattle.format.specs.Prog.{Prog, ret, bind}
 use Rattle.format.specs.Fields.{u8}
+use Rattle.note.specs.Note.{NoteIs, noteIn}
+use Rattle.note.specs.Notes.{notes, noNotes}
 use Rattle.beat.specs.declared.Beat.{Beat}
 use Rattle.beat.specs.declared.head.Head.{Head}
 use Rattle.beat.specs.declared.effects.BeatEffects.{BeatEffects}
@@ -14,8 +16,6 @@ use Rattle.beat.specs.Head.{head, noHead}
 use Rattle.beat.specs.Chord.{chordName, beatText}
 use Rattle.beat.specs.Effects.{beatEffects, noEffects}
 use Rattle.beat.specs.Mix.{mix, noMix}
-use Rattle.beat.specs.Note.{NoteIs, noteIn}
-use Rattle.beat.specs.Notes.{notes, noNotes}
 use Rattle.beat.specs.Tail.{tail}
 
 -- a beat as the format has it: its texts with their bytes, its bends with their points

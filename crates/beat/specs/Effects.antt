@@ -1,22 +1,18 @@
 -- The effects of a beat. Assumes nothing.
 use Prim.Native.Nat.{ℕ}
 use mathlib.Core.Bool.{false, _&&_, _||_}
-use lib.Dec.{leb, ltb, eqb}
+use lib.Dec.{ltb, eqb}
 use Rattle.model.specs.declared.Arpeggio.{Arpeggio}
 use Rattle.model.specs.declared.Arpeggio.the-variants as A
 use Rattle.format.specs.Text.{pick}
 use Rattle.format.specs.Prog.{Prog, ret, bind, whenLe, whenBits}
 use Rattle.format.specs.Fields.{u8, skip}
+use Rattle.note.specs.Optional.{has, optional, moreFlags}
+use Rattle.note.specs.Points.{whammy}
 use Rattle.beat.specs.declared.effects.PickStroke.{PickStroke}
 use Rattle.beat.specs.declared.effects.PickStroke.the-variants as P
 use Rattle.beat.specs.declared.effects.Tapping.{Tapping}
 use Rattle.beat.specs.declared.effects.BeatEffects.{BeatEffects}
-use Rattle.beat.specs.Optional.{has, optional}
-use Rattle.beat.specs.Points.{whammy}
-
--- the second byte of flags stands from v400 on
-unfoldable pub moreFlags : ℕ → Prog ℕ
-moreFlags v = optional (leb 400 v) u8 0
 
 -- tapping 1 is a tap, 2 and 3 are slap and pop; before v400 a tapping byte of 0 is a whammy
 unfoldable pub tappingOf : ℕ → ℕ → Tapping

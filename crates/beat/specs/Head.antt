@@ -10,8 +10,8 @@ use Rattle.bin.specs.Signed.{signed}
 use Rattle.format.specs.Text.{pick}
 use Rattle.format.specs.Prog.{Prog, ret, bind}
 use Rattle.format.specs.Fields.{u8, u32}
+use Rattle.note.specs.Optional.{has, optional}
 use Rattle.beat.specs.declared.head.Head.{Head}
-use Rattle.beat.specs.Optional.{has, optional}
 
 -- tuplet 3 is over 2, 5 to 7 over 4, 9 to 13 over 8, others none
 unfoldable pub tupletOf : ℕ → Tuplet

@@ -1,11 +1,6 @@
-pub mod Optional
 pub mod Head
 pub mod Chord
-pub mod Points
 pub mod Effects
 pub mod Mix
-pub mod Marks
-pub mod Note
-pub mod Notes
 pub mod Tail
 pub mod Beat

@@ -7,9 +7,9 @@ use Rattle.model.specs.declared.Tempo.the-variants.{NoTempo, Bpm}
 use Rattle.format.specs.Text.{pick}
 use Rattle.format.specs.Prog.{Prog, ret, bind, whenLe, whenBits}
 use Rattle.format.specs.Fields.{u8, u32, skip, NEGATIVE, intByteStringPast}
+use Rattle.note.specs.Optional.{notNegative, optional}
 use Rattle.beat.specs.declared.mix.Mix.{Mix}
 use Rattle.beat.specs.declared.mix.Signs.{Signs}
-use Rattle.beat.specs.Optional.{notNegative, optional}
 
 -- of the instrument and of the six values only the sign goes on: whether each is 0 or more
 unfoldable pub sign : Prog Bool

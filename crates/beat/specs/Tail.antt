@@ -5,7 +5,7 @@ use Rattle.model.specs.declared.Ottava.the-variants.{NoOttava, Va8, Vb8, Ma15, 
 use Rattle.format.specs.Text.{pick}
 use Rattle.format.specs.Prog.{Prog, ret, bind, whenLe}
 use Rattle.format.specs.Fields.{u16, skip}
-use Rattle.beat.specs.Optional.{has, optional}
+use Rattle.note.specs.Optional.{has, optional}
 
 -- ottava bits are tried in the order 0x10, 0x20, 0x40, 0x100
 unfoldable pub ottavaOf : ℕ → Ottava

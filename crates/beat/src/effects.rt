@@ -2,10 +2,10 @@
 ghost use mathlib.Core.Path.{_≡_};
 ghost use Rattle.format.specs.Place.{Reaches, Gives};
 ghost use Rattle.beat.specs.Effects as format;
-use crate::optional::byte_if;
-use crate::optional::skip_if;
 use format::Place;
 use model::Arpeggio;
+use note::optional::byte_if;
+use note::optional::skip_if;
 
 pub enum PickStroke {
     NoStroke,
@@ -104,7 +104,7 @@ fn tremolo_bar(s: &[u8], from: Place, more: u8) -> Place
     ensures { λ r. ⌜ Reaches (format.tremoloBar more) (now (s .entry)) from tt r ⌝ }
 {
     if more & 0x04 != 0 {
-        return crate::bend::skip_bend(s, from);
+        return note::bend::skip_bend(s, from);
     }
     from
 }

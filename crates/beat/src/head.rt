@@ -2,11 +2,11 @@
 ghost use mathlib.Core.Path.{_≡_};
 ghost use Rattle.format.specs.Place.{Gives};
 ghost use Rattle.beat.specs.Head as format;
-use crate::optional::byte_if;
-use crate::optional::word_if;
 use format::Place;
 use model::Duration;
 use model::Tuplet;
+use note::optional::byte_if;
+use note::optional::word_if;
 
 pub struct Head {
     pub flags: u8,

@@ -5,14 +5,9 @@ ghost use Rattle.beat.specs.Beat as format;
 
 pub mod head; // flags, status, duration and tuplet
 pub mod chord; // the chord's name, and the beat's text
-pub mod bend; // the points of a bend, where they stand
 pub mod effects; // the effects of a beat
 pub mod mix; // the mix table of a beat
-pub mod marks; // the effects of a note
-pub mod note; // a note
-pub mod notes; // the notes of a beat
 pub mod tail; // the ottava
-mod optional; // optional fields
 
 use effects::BeatEffects;
 use format::Place;
@@ -21,11 +16,10 @@ use head::Head;
 use mix::Mix;
 use model::Ottava;
 use note::Note;
+use note::notes;
 
-// The first 32-bit number, and the first byte, that stand for one below zero.
+// The first 32-bit number that stands for one below zero.
 pub(crate) const NEGATIVE: u32 = 0x8000_0000;
-
-pub(crate) const NEGATIVE_BYTE: u8 = 0x80;
 
 // A beat as read. The string bits say which of its notes are there, note i for bit 6 - i.
 pub struct Beat {

@@ -2,9 +2,9 @@
 ghost use mathlib.Core.Path.{_≡_};
 ghost use Rattle.format.specs.Place.{Reaches, Gives};
 ghost use Rattle.beat.specs.Mix as format;
-use crate::optional::skip_if;
 use format::Place;
 use model::Tempo;
+use note::optional::skip_if;
 
 // Whether each of three values of the mix table is 0 or more.
 struct Signs {
@@ -46,7 +46,7 @@ fn sign_at(s: &[u8], from: Place) -> SignRead
     let b = bin::u8_at(s, from);
     let next = b.next;
     SignRead {
-        given: b.value < crate::NEGATIVE_BYTE,
+        given: b.value < note::NEGATIVE_BYTE,
         next,
     }
 }

@@ -3,9 +3,9 @@ ghost use mathlib.Core.Path.{_≡_};
 ghost use Rattle.format.specs.Place.{Gives};
 ghost use Rattle.model.specs.declared.Ottava.the-variants.{NoOttava};
 ghost use Rattle.beat.specs.Tail as format;
-use crate::optional::skip_if;
 use format::Place;
 use model::Ottava;
+use note::optional::skip_if;
 
 pub struct OttavaRead {
     pub ottava: Ottava,

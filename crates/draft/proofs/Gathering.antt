@@ -1,20 +1,19 @@
 -- The members of a chord, one note after another. Assumes nothing.
-use Prim.Native.Nat.{ℕ, _+_, _<_, _≤_, min}
+use Prim.Native.Nat.{ℕ, _+_, _<_, _≤_}
 use native.Mathlib.Omega.{arith}
-use native.Mathlib.Decide.{decLe}
 use native.Mathlib.Numerals.{add-one}
 use mathlib.Core.Path.{_≡_, refl, sym, ap, _∙_}
 use mathlib.Core.Bool.{Bool}
 use mathlib.Core.List.{List, [], _∷_, _++_, map, append-nil, append-assoc}
-use lib.ListN.{length, getD, set, take, drop}
-use lib.Seq.{take-all, take-suc-set}
+use lib.ListN.{length, getD, set}
+use lib.Seq.{take-suc-set}
 use Rattle.model.specs.declared.Member.{Member}
-use Rattle.beat.specs.declared.marks.Grace.{Grace}
-use Rattle.beat.specs.declared.marks.GraceNote.{GraceNote}
-use Rattle.beat.specs.declared.marks.GraceNote.the-variants.{NoGrace, Before}
-use Rattle.beat.specs.declared.note.Note.{Note}
-use Rattle.beat.specs.declared.note.NoteRead.{NoteRead}
-use Rattle.beat.specs.Note.{NoteIs, noteIn}
+use Rattle.note.specs.declared.marks.Grace.{Grace}
+use Rattle.note.specs.declared.marks.GraceNote.{GraceNote}
+use Rattle.note.specs.declared.marks.GraceNote.the-variants.{NoGrace, Before}
+use Rattle.note.specs.declared.Note.{Note}
+use Rattle.note.specs.declared.NoteRead.{NoteRead}
+use Rattle.note.specs.Note.{NoteIs, noteIn}
 use Rattle.score.specs.declared.Fretboard.{Fretboard}
 use Rattle.score.specs.Members.{Keyed, memberOf, gracedAfter, graces, graceMember}
 use Rattle.draft.specs.declared.Struck.{Struck}
@@ -23,8 +22,9 @@ use Rattle.draft.specs.declared.Members.{Members}
 use Rattle.draft.specs.Meant.{struckIn, chordIn, membersIn}
 use Rattle.draft.specs.Chord.{silent}
 use Rattle.draft.specs.Member.{struckAs, Longer}
+use Rattle.draft.specs.Voicing.{sizeOf, noStruck, keyedAt}
 use Rattle.draft.proofs.Notes.{note-in}
-use Rattle.draft.proofs.Placing.{none, next-left, none-left}
+use Rattle.draft.proofs.Left.{chordFrom, from-start, from-next, from-end}
 
 -- ---- members that come of each note by itself, whatever its bend
 
@@ -38,9 +38,9 @@ pub record Each (f : List Keyed → List Member) : Type 0 where
 
 -- as the file has it
 note-alone : {f : List Keyed → List Member} → Each f →
-    (s : List ℕ) (notes : List Note) (k : Struck) (read : NoteRead) → read ≡ getD notes (k .string) silent .read →
-    f (struckAs k read ∷ []) ≡ f (struckIn s notes k ∷ [])
-note-alone {f} each s notes k read e =
+    (s : List ℕ) (notes : List Note) (k : Struck) (note : Note) → note ≡ getD notes (k .string) silent →
+    f (struckAs k (note .read) ∷ []) ≡ f (struckIn s notes k ∷ [])
+note-alone {f} each s notes k note e =
     rw e
     (each .bendless k (noteIn s (getD notes (k .string) silent)) ∙
     ap (λ (x : NoteIs). f (heldAs k x ∷ [])) (note-in s notes (k .string)))
@@ -76,53 +76,41 @@ module _ (board : Fretboard) (flat : Bool) where
 
 -- ---- from the first note to the last
 
-held-take : {A : Type 0} (n m : ℕ) (l : List A) → length l ≤ m → take (min n m) l ≡ take n l
-held-take n m l h = elim (decLe n m) [
-  | yes d ↦ let e : min n m ≡ n = omega arith in rw e
-  | no d ↦ let e : min n m ≡ m = omega arith in rw (e, take-all m l h, take-all n l (omega arith))
-]
-
-abbrev size : Chord → ℕ
-size chord = min (chord .count) 7
-
-abbrev notesFrom : List ℕ → List Note → Chord → ℕ → List Keyed
-notesFrom s notes chord i = map (struckIn s notes) (drop i (take (size chord) (chord .notes)))
-
 -- what is gathered of the notes before i, and what those from i on add to it
 pub record Gathering (f : List Keyed → List Member) (s : List ℕ) (notes : List Note) (chord : Chord) (i : ℕ)
     (members : Members) : Type 0 where
-  pub is : membersIn members ++ f (notesFrom s notes chord i) ≡ f (chordIn s notes chord)
+  pub is : membersIn members ++ f (chordFrom s notes chord i) ≡ f (chordIn s notes chord)
   pub most : members .count ≤ i
 
-module _ {f : List Keyed → List Member} {s : List ℕ} {notes : List Note} {chord : Chord} (each : Each f)
-    (long : length (chord .notes) ≡ 7) where
+module _ {f : List Keyed → List Member} {s : List ℕ} {notes : List Note} {chord : Chord} where
   pub gathering : (members : Members) → members .count ≡ 0 → Gathering f s notes chord 0 members
-  unfolding membersIn chordIn
-  gathering members e =
-      record { is = rw (e, held-take (chord .count) 7 (chord .notes) (omega arith)); most = omega arith }
+  unfolding membersIn
+  gathering members e = record { is = rw (e, from-start s notes chord); most = omega arith }
 
-  pub gathers : {i : ℕ} {members after : Members} (read : NoteRead) → i < size chord →
-      read ≡ getD notes (getD (chord .notes) i none .string) silent .read → Gathering f s notes chord i members →
-      Longer members (f (struckAs (getD (chord .notes) i none) read ∷ [])) after →
+  pub gathers : Each f → {i : ℕ} {members after : Members} (note : Note) → i < sizeOf chord →
+      note ≡ getD notes (getD (chord .notes) i noStruck .string) silent → Gathering f s notes chord i members →
+      Longer members (f (struckAs (getD (chord .notes) i noStruck) (note .read) ∷ [])) after →
       Gathering f s notes chord (i + 1) after
-  gathers {i} {members} {after} read inside e g more =
-      let k = getD (chord .notes) i none in
-      let rest = notesFrom s notes chord (i + 1) in
-      let left : notesFrom s notes chord i ≡ struckIn s notes k ∷ rest =
-      ap (map (struckIn s notes)) (next-left (chord .notes) (size chord) i (omega arith) inside) in
+  unfolding keyedAt
+  gathers each {i} {members} {after} note inside e g more =
+      let k = getD (chord .notes) i noStruck in
       record {
         is =
-            rw (more .is, note-alone each s notes k read e, append-assoc, ← each .next _ rest, ← left)
+            rw (
+              more .is,
+              note-alone each s notes k note e,
+              append-assoc,
+              ← each .next _ _,
+              ← from-next s notes chord i inside,
+            )
             (g .is);
         most = omega (arith, more .most, g .most);
       }
 
-  pub gathered : {i : ℕ} {members : Members} → size chord ≤ i → Gathering f s notes chord i members →
+  pub gathered : Each f → {i : ℕ} {members : Members} → sizeOf chord ≤ i → Gathering f s notes chord i members →
       membersIn members ≡ f (chordIn s notes chord)
-  gathered {i} {members} past g =
-      let left : notesFrom s notes chord i ≡ [] =
-      ap (map (struckIn s notes)) (none-left (chord .notes) (size chord) i (omega arith) past) in
-      sym (append-nil (membersIn members)) ∙ (rw (left, each .nil) at (g .is))
+  gathered each {i} {members} past g =
+      sym (append-nil (membersIn members)) ∙ (rw (from-end s notes chord i past, each .nil) at (g .is))
 
 -- ---- one member more, or none
 
@@ -147,3 +135,15 @@ grace-more members r board flat k read g e more = at (read .effects .grace) e
     at : (t : GraceNote) → t ≡ Before g →
         Longer members (map (graceMember board flat) (gracedAfter t (struckAs k read) [])) r
     at t f = rw f more
+
+-- ---- the member of each note, as number i
+
+module _ (board : Fretboard) (flat : Bool) {s : List ℕ} {notes : List Note} {chord : Chord} {i : ℕ}
+    {list : List Member} where
+  pub lists : (note : Note) (m : Member) → i < sizeOf chord → i < length list →
+      note ≡ getD notes (getD (chord .notes) i noStruck .string) silent →
+      m ≡ memberOf board flat (struckAs (getD (chord .notes) i noStruck) (note .read)) →
+      Gathering (map (memberOf board flat)) s notes chord i (record { list = list; count = i }) →
+      Gathering (map (memberOf board flat)) s notes chord (i + 1) (record { list = set list i m; count = i + 1 })
+  lists note m inside fits is e g =
+      gathers (each-member board flat) note inside is g (rw e (one-more _ _ _ fits refl refl))

@@ -4,17 +4,16 @@ use native.Mathlib.Omega.{arith}
 use native.Mathlib.Numerals.{add-one}
 use mathlib.Core.Path.{_≡_, refl, sym}
 use mathlib.Core.List.{List, [], _∷_, map}
-use lib.ListN.{length, getD, take, drop, drop-of-length-le, length-take, List·getD-map}
+use lib.ListN.{length, getD, take, drop, drop-of-length-le, length-take}
 use lib.Seq.{drop-cons, getD-take, length-take-le, take-all}
-use Rattle.beat.specs.declared.note.Note.{Note}
-use Rattle.beat.specs.Points.{pointsAt}
-use Rattle.beat.specs.Marks.{noMarks}
-use Rattle.beat.specs.Note.{noteIn, noNote}
+use Rattle.note.specs.declared.Note.{Note}
+use Rattle.note.specs.Note.{noteIn}
 use Rattle.score.specs.Members.{Keyed}
 use Rattle.draft.specs.declared.Chord.{Chord}
 use Rattle.draft.specs.Meant.{chordIn, struckIn}
 use Rattle.draft.specs.Chord.{silent}
 use Rattle.draft.specs.Voicing.{sizeOf, noStruck, keyedAt, noteAt}
+use Rattle.draft.proofs.Notes.{note-in}
 
 module _ (c : Chord) (full : length (c .notes) ≡ 7) where
   pub size-few : c .count ≤ 7 → c .count ≡ sizeOf c
@@ -30,9 +29,10 @@ pub chordFrom : List ℕ → List Note → Chord → ℕ → List Keyed
 chordFrom s notes c i = map (struckIn s notes) (drop i (take (c .count) (c .notes)))
 
 module _ (s : List ℕ) (notes : List Note) (c : Chord) where
-  pub note-is : (i : ℕ) → noteIn s (getD notes (getD (c .notes) i noStruck .string) silent) ≡ noteAt s notes c i
-  unfolding keyedAt noNote silent noMarks pointsAt
-  note-is i = sym (List·getD-map (noteIn s) notes (getD (c .notes) i noStruck .string) silent)
+  pub note-is : (i : ℕ) {n : Note} → n ≡ getD notes (getD (c .notes) i noStruck .string) silent →
+      noteIn s n ≡ noteAt s notes c i
+  unfolding keyedAt
+  note-is i e = rw e (note-in s notes (getD (c .notes) i noStruck .string))
 
   pub from-start : chordFrom s notes c 0 ≡ chordIn s notes c
   unfolding chordFrom chordIn

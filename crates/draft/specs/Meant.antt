@@ -3,9 +3,9 @@ use Prim.Native.Nat.{ℕ}
 use mathlib.Core.List.{List, map}
 use lib.ListN.{getD, take}
 use Rattle.model.specs.declared.Member.{Member}
-use Rattle.beat.specs.declared.note.Note.{Note}
-use Rattle.beat.specs.Points.{bendIn}
-use Rattle.beat.specs.Note.{NoteIs, noteIn, noNote}
+use Rattle.note.specs.declared.Note.{Note}
+use Rattle.note.specs.Points.{bendIn}
+use Rattle.note.specs.Note.{NoteIs, noteIn, noNote}
 use Rattle.score.specs.Members.{Keyed}
 use Rattle.score.specs.Rows.{RowIs, curveOf}
 use Rattle.draft.specs.declared.Struck.{Struck}

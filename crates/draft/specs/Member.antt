@@ -3,7 +3,7 @@ use Prim.Native.Nat.{_+_, _≤_}
 use mathlib.Core.Path.{_≡_}
 use mathlib.Core.List.{List, [], _++_}
 use Rattle.model.specs.declared.Member.{Member}
-use Rattle.beat.specs.declared.note.NoteRead.{NoteRead}
+use Rattle.note.specs.declared.NoteRead.{NoteRead}
 use Rattle.score.specs.Members.{Keyed}
 use Rattle.draft.specs.declared.Struck.{Struck}
 use Rattle.draft.specs.declared.Members.{Members}

@@ -11,12 +11,12 @@ use Rattle.model.specs.declared.Technique.{Technique}
 use Rattle.model.specs.declared.Technique.the-variants.{NoTechnique, Hammer, Slide}
 use Rattle.model.specs.declared.TechniqueText.the-variants.{HammerMark}
 use Rattle.model.specs.Marks.{addMark}
-use Rattle.beat.specs.declared.marks.Grace.{Grace}
-use Rattle.beat.specs.declared.marks.GraceNote.{GraceNote}
-use Rattle.beat.specs.declared.marks.GraceNote.the-variants.{NoGrace, Before}
-use Rattle.beat.specs.declared.marks.NoteEffects.{NoteEffects}
-use Rattle.beat.specs.Points.{bendIn}
-use Rattle.beat.specs.Note.{NoteIs}
+use Rattle.note.specs.declared.marks.Grace.{Grace}
+use Rattle.note.specs.declared.marks.GraceNote.{GraceNote}
+use Rattle.note.specs.declared.marks.GraceNote.the-variants.{NoGrace, Before}
+use Rattle.note.specs.declared.marks.NoteEffects.{NoteEffects}
+use Rattle.note.specs.Points.{bendIn}
+use Rattle.note.specs.Note.{NoteIs}
 use Rattle.score.specs.Members.{Graced}
 use Rattle.score.specs.Rows.{Played, withText, withBend, withHammer, withSlide, graceTechnique, graceText, graceHead}
 use Rattle.draft.specs.declared.played.Played.{Played as PlayedHere}

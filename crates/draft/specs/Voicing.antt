@@ -2,8 +2,8 @@
 use Prim.Native.Nat.{ℕ}
 use mathlib.Core.List.{List}
 use lib.ListN.{length, getD, take}
-use Rattle.beat.specs.declared.note.Note.{Note}
-use Rattle.beat.specs.Note.{NoteIs}
+use Rattle.note.specs.declared.Note.{Note}
+use Rattle.note.specs.Note.{NoteIs}
 use Rattle.score.specs.Members.{Keyed}
 use Rattle.draft.specs.declared.Struck.{Struck}
 use Rattle.draft.specs.declared.Chord.{Chord}

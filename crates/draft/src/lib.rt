@@ -2,12 +2,11 @@
 // entered in the tables.
 pub mod sounding; // which notes sound, in the order of their keys
 pub mod member; // the members of a row
-mod voicing; // the notes of a chord, from the lowest key on
+mod voicing; // what the notes of a chord give its row
 pub mod played; // technique and its text
 pub mod marks; // articulations
 pub mod rows; // the rows of a beat
 
-use beat::bend::Bend;
 use curve::level::Level;
 use format::Range;
 use model::Arpeggio;
@@ -20,6 +19,7 @@ use model::Place;
 use model::RowKind;
 use model::Technique;
 use model::TechniqueText;
+use note::bend::Bend;
 
 // A note that sounds. `string` is its place in the file's order of strings.
 pub struct Struck {

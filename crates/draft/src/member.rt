@@ -1,6 +1,6 @@
 // The members of a row: of the notes of a chord, and of the graces before them.
 ghost use mathlib.Core.Path.{_≡_};
-ghost use Prim.Native.Nat.{_-_, _<_, min};
+ghost use Prim.Native.Nat.{_-_, _<_};
 ghost use mathlib.Core.List.{[], _∷_, map};
 ghost use Rattle.score.specs.Members.{positionOf, turned, fingerOf, memberOf, graces, graceMember};
 ghost use Rattle.draft.specs.Meant.{chordIn, membersIn};
@@ -8,16 +8,17 @@ ghost use Rattle.draft.specs.Member.{struckAs, Longer};
 use crate::Chord;
 use crate::Members;
 use crate::Struck;
-use crate::sounding::read_on;
-use beat::marks::Grace;
-use beat::marks::GraceNote;
-use beat::note::LeftHand;
-use beat::note::Note;
-use beat::note::NoteRead;
+use crate::voicing::size_of;
 use model::Finger;
 use model::Member;
 use model::TabPosition;
 use model::Ties;
+use note::LeftHand;
+use note::NO_NOTE;
+use note::Note;
+use note::NoteRead;
+use note::marks::Grace;
+use note::marks::GraceNote;
 use score::Fretboard;
 
 const NO_TIES: Ties = Ties {
@@ -157,26 +158,21 @@ fn with_grace(
     with_member(members, grace_member(board, flat, struck, read, grace))
 }
 
-// How many notes a chord has.
-fn size_of(chord: Chord) -> usize
-    ensures { λ r. ⌜ r ≡ min (chord .count) 7 ⌝ }
-{
-    if chord.count < 7 { chord.count } else { 7 }
-}
-
 pub fn members_of(s: &[u8], board: Fretboard, flat: bool, notes: [Note; 7], chord: Chord) -> Members
     ensures { λ r. ⌜ membersIn r ≡ map (memberOf board flat) (chordIn (now (s .entry)) notes chord) ⌝ }
 {
     let size = size_of(chord);
-    let mut members = NO_MEMBERS;
+    let mut list = [NO_MEMBER; 7];
     let mut i: usize = 0;
     while i < size {
         let struck = chord.notes[i];
-        let read = read_on(notes, struck.string);
-        members = with_member(members, member_of(board, flat, struck, read));
+        let string = struck.string as usize;
+        let note = if string < 7 { notes[string] } else { NO_NOTE };
+        let read = note.read;
+        list[i] = member_of(board, flat, struck, read);
         i += 1;
     }
-    members
+    Members { list, count: i }
 }
 
 // Grace members stand as their notes.
@@ -194,7 +190,9 @@ pub fn grace_members_of(
     let mut i: usize = 0;
     while i < size {
         let struck = chord.notes[i];
-        let read = read_on(notes, struck.string);
+        let string = struck.string as usize;
+        let note = if string < 7 { notes[string] } else { NO_NOTE };
+        let read = note.read;
         members = with_grace(members, board, flat, struck, read);
         i += 1;
     }

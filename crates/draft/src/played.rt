@@ -1,19 +1,15 @@
 // Technique and its text: the members are gone through in the order of their keys (RULES.md 19).
 ghost use mathlib.Core.Path.{_≡_};
 ghost use Rattle.format.specs.Text.{pick};
-ghost use Rattle.beat.specs.Points.{bendIn};
-ghost use Rattle.beat.specs.Note.{noteIn};
+ghost use Rattle.note.specs.Points.{bendIn};
+ghost use Rattle.note.specs.Note.{noteIn};
 ghost use Rattle.score.specs.Rows as rule;
-ghost use Rattle.draft.specs.Meant.{chordIn};
 ghost use Rattle.draft.specs.Steps.{playedIn, playedBy};
-use crate::Chord;
-use crate::voicing::note_at;
-use crate::voicing::size_of;
-use beat::bend::Bend;
-use beat::marks::NoteEffects;
-use beat::note::Note;
 use model::Technique;
 use model::TechniqueText;
+use note::Note;
+use note::bend::Bend;
+use note::marks::NoteEffects;
 
 pub struct Played {
     pub text: TechniqueText,
@@ -23,7 +19,7 @@ pub struct Played {
 
 pub(crate) const NO_BEND: Bend = Bend { start: 0, count: 0 };
 
-const NO_PLAY: Played = Played {
+pub(crate) const NO_PLAY: Played = Played {
     text: TechniqueText::NoText,
     technique: Technique::NoTechnique,
     bend: NO_BEND,
@@ -133,7 +129,7 @@ fn with_slide(s: &[u8], effects: NoteEffects, p: Played) -> Played
     p
 }
 
-fn played_by(s: &[u8], note: Note, p: Played) -> Played
+pub(crate) fn played_by(s: &[u8], note: Note, p: Played) -> Played
     ensures { λ r. ⌜ playedIn (now (s .entry)) r ≡
         playedBy (noteIn (now (s .entry)) note) (playedIn (now (s .entry)) p) ⌝ }
 {
@@ -141,18 +137,4 @@ fn played_by(s: &[u8], note: Note, p: Played) -> Played
     let bend = note.bend;
     let p = with_bend(s, bend, with_text(s, effects, p));
     with_slide(s, effects, with_hammer(s, effects, p))
-}
-
-pub fn played_of(s: &[u8], notes: [Note; 7], chord: Chord) -> Played
-    ensures { λ r. ⌜ playedIn (now (s .entry)) r ≡ rule.played rule.noPlay (chordIn (now (s .entry)) notes chord) ⌝ }
-{
-    let count = size_of(chord);
-    let mut p = NO_PLAY;
-    let mut i = 0;
-    while i < count {
-        let note = note_at(s, notes, chord, i);
-        p = played_by(s, note, p);
-        i += 1;
-    }
-    p
 }

@@ -11,19 +11,18 @@ ghost use Rattle.draft.specs.Steps.{anyOf, gracesOf, gracedBy, gracedIf,
 use crate::Chord;
 use crate::Draft;
 use crate::Members;
-use crate::marks::marks_of;
 use crate::member::grace_members_of;
 use crate::member::members_of;
 use crate::played::NO_BEND;
-use crate::played::played_of;
-use crate::voicing::note_at;
+use crate::voicing::head_with;
 use crate::voicing::size_of;
+use crate::voicing::voicing_of;
 use beat::Beat;
-use beat::marks::Grace;
-use beat::marks::GraceNote;
-use beat::note::Note;
+use curve::level::ChordLevel;
 use curve::level::Level;
 use curve::level::LevelAfter;
+use curve::level::level_after;
+use curve::level::no_chord;
 use format::Range;
 use model::Arpeggio;
 use model::Duration;
@@ -40,6 +39,10 @@ use model::TechniqueText;
 use model::Ties;
 use model::Tuplet;
 use model::marks::none_added;
+use note::NO_NOTE;
+use note::Note;
+use note::marks::Grace;
+use note::marks::GraceNote;
 use score::Fretboard;
 
 // What the graces of a chord give their row, and whether there are any.
@@ -74,43 +77,32 @@ const NO_MEMBERS: Members = Members {
 
 // ---- the row of a beat
 
-// One dead note gives the X head.
-fn head_of(s: &[u8], notes: [Note; 7], chord: Chord) -> NoteHead
-    ensures { λ r. ⌜ r ≡ rule.headOf (chordIn (now (s .entry)) notes chord) ⌝ }
+// Each note is taken where it stands, as in `voicing_of`.
+fn levels_of(s: &[u8], notes: [Note; 7], chord: Chord) -> ChordLevel
+    ensures { λ r. ⌜ r ≡ chordOf (rule.levels (chordIn (now (s .entry)) notes chord)) ⌝ }
 {
     let count = size_of(chord);
+    let mut level = no_chord();
     let mut i = 0;
     while i < count {
-        let note = note_at(s, notes, chord, i);
-        if note.read.dead {
-            return NoteHead::Cross;
-        }
-        i += 1;
-    }
-    NoteHead::Normal
-}
-
-// The dynamic of a row, and the running one after it.
-pub fn level_of(s: &[u8], running: u8, notes: [Note; 7], chord: Chord) -> LevelAfter
-    ensures { λ r. ⌜ r ≡ levelAfter running (chordOf (rule.levels (chordIn (now (s .entry)) notes chord))) ⌝ }
-{
-    let count = size_of(chord);
-    let mut level = curve::level::no_chord();
-    let mut i = 0;
-    while i < count {
-        let note = note_at(s, notes, chord, i);
+        let struck = chord.notes[i];
+        let string = struck.string as usize;
+        let note = if string < 7 { notes[string] } else { NO_NOTE };
         let given = note.read.level;
         level = curve::level::chord_with(level, given);
         i += 1;
     }
-    curve::level::level_after(running, level)
+    level
 }
 
-fn dynamic_of(s: &[u8], running: u8, notes: [Note; 7], chord: Chord) -> Level
-    ensures { λ r. ⌜ r ≡ levelAfter running (chordOf (rule.levels (chordIn (now (s .entry)) notes chord))) .mark ⌝ }
+// The dynamic of a row, and the running one after it. For a rest the notes are not handed on: they would be copied for nothing.
+pub fn level_of(s: &[u8], running: u8, notes: [Note; 7], chord: Chord) -> LevelAfter
+    ensures { λ r. ⌜ r ≡ levelAfter running (chordOf (rule.levels (chordIn (now (s .entry)) notes chord))) ⌝ }
 {
-    let level = level_of(s, running, notes, chord);
-    level.mark
+    if size_of(chord) == 0 {
+        return level_after(running, no_chord());
+    }
+    level_after(running, levels_of(s, notes, chord))
 }
 
 fn value_of(s: &[u8], beat: Beat) -> NoteValue
@@ -163,11 +155,17 @@ fn chord_row(
 {
     let notes = beat.notes;
     let effects = beat.effects;
-    let played = played_of(s, notes, chord);
+    let voiced = voicing_of(s, effects, notes, chord);
+    let played = voiced.played;
     let text = played.text;
     let technique = played.technique;
     let bend = played.bend;
+    let level = voiced.level;
+    let after = level_after(running, level);
+    let dynamic = after.mark;
+    let articulations = voiced.marks;
     let arpeggio = effects.brush;
+    let head = voiced.head;
     let ottava = beat.ottava;
     let name = beat.chord;
     Draft {
@@ -179,10 +177,10 @@ fn chord_row(
         text,
         technique,
         bend,
-        dynamic: dynamic_of(s, running, notes, chord),
-        articulations: marks_of(s, effects, notes, chord),
+        dynamic,
+        articulations,
         arpeggio,
-        head: head_of(s, notes, chord),
+        head,
         ottava,
         chord: name,
     }
@@ -232,15 +230,6 @@ fn grace_text(transition: u8, before: TechniqueText) -> TechniqueText
     before
 }
 
-fn grace_head(dead: bool, before: NoteHead) -> NoteHead
-    ensures { λ r. ⌜ r ≡ pick dead NoteHead.Cross before ⌝ }
-{
-    if dead {
-        return NoteHead::Cross;
-    }
-    before
-}
-
 fn graced_by(grace: Grace, x: Graces) -> Graces
     ensures { λ r. ⌜ r ≡ gracedBy grace x ⌝ }
 {
@@ -251,7 +240,7 @@ fn graced_by(grace: Grace, x: Graces) -> Graces
         any: true,
         text: grace_text(grace.transition, text),
         technique: grace_technique(grace.transition, technique),
-        head: grace_head(grace.dead, head),
+        head: head_with(grace.dead, head),
     }
 }
 
@@ -271,7 +260,9 @@ fn graces_of(s: &[u8], notes: [Note; 7], chord: Chord) -> Graces
     let mut x = NO_GRACES;
     let mut i = 0;
     while i < count {
-        let note = note_at(s, notes, chord, i);
+        let struck = chord.notes[i];
+        let string = struck.string as usize;
+        let note = if string < 7 { notes[string] } else { NO_NOTE };
         let effects = note.read.effects;
         let grace = effects.grace;
         x = graced_if(grace, x);
@@ -280,9 +271,13 @@ fn graces_of(s: &[u8], notes: [Note; 7], chord: Chord) -> Graces
     x
 }
 
+// A rest has none, and its notes are not handed on.
 pub fn has_grace(s: &[u8], notes: [Note; 7], chord: Chord) -> bool
     ensures { λ r. ⌜ r ≡ anyOf (graces (chordIn (now (s .entry)) notes chord)) ⌝ }
 {
+    if size_of(chord) == 0 {
+        return false;
+    }
     let x = graces_of(s, notes, chord);
     x.any
 }

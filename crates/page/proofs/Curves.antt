@@ -9,10 +9,12 @@ use lib.ListN.{length, List·getD-eq-default}
 use Rattle.model.specs.declared.Point.{Point}
 use Rattle.curve.specs.declared.bend.NextPoint.the-variants.{Here, End}
 use Rattle.curve.specs.declared.bend.Slots.{Slots}
-use Rattle.curve.specs.Bend.{pointOf}
+use Rattle.curve.specs.Bend.{pointOf, finish}
 use Rattle.curve.specs.Laws.{left-next}
 use Rattle.curve.specs.Slots.{left, leftOf, nextPoint}
-use Rattle.beat.specs.Points.{BendPoint, word, pointsAt}
+use Rattle.note.specs.declared.bend.Bend.{Bend}
+use Rattle.note.specs.Points.{BendPoint, word, pointsAt, bendIn}
+use Rattle.score.specs.Rows.{curveOf}
 
 -- a point of the file as one of a curve
 abbrev pub pointIn : BendPoint → Point
@@ -57,6 +59,11 @@ points-held s at n = elim (decLe at (length s)) [
       let e : min at (length s) ≡ length s = min-eq-right (omega arith) in
       rw e (past-alike s n (length s) at (omega arith) (omega arith))
 ]
+
+-- a bend without points has no curve
+pub no-curve : (s : List ℕ) (b : Bend) → b .count ≡ 0 → curveOf (bendIn s b) ≡ []
+unfolding finish pointsAt
+no-curve s b e = rw e
 
 -- ---- in order
 

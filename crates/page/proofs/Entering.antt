@@ -20,7 +20,7 @@ use Rattle.score.specs.declared.OttavaRun.the-variants.{NoRun, Over}
 use Rattle.score.specs.Page as Page
 use Rattle.score.specs.Page.{addAll, startTies, turnHammer, turnRun, sameKind}
 use Rattle.draft.specs.declared.Draft.{Draft}
-use Rattle.page.specs.Words.{answersWord, startWords, words}
+use Rattle.words.specs.Words.{answersWord, startWords, words}
 use Rattle.page.specs.Meant.{drawn, undrawn}
 
 -- a tie starts at the first member of some that answers, or at one of those after it

@@ -1,7 +1,3 @@
-pub mod Places
-pub mod Counting
-pub mod Sums
-pub mod Bytes
 pub mod Picked
 pub mod Taken
 pub mod Entering

@@ -8,10 +8,8 @@ use lib.Seq.{sets}
 use Rattle.model.specs.declared.Place.{Place}
 use Rattle.tables.specs.Table.{stores}
 use Rattle.entries.specs.Words.{rowStride, rowWords, memberStride, memberWords, pointStride, pointWords}
-use Rattle.curve.specs.declared.bend.Slots.{Slots}
-use Rattle.curve.specs.Slots.{shown}
 use Rattle.beat.specs.Beat.{BeatIs}
-use Rattle.beat.specs.Points.{bendIn}
+use Rattle.note.specs.Points.{bendIn}
 use Rattle.score.specs.declared.Fretboard.{Fretboard}
 use Rattle.score.specs.declared.Kept.{Kept}
 use Rattle.score.specs.declared.Voice.{Voice}
@@ -22,28 +20,30 @@ use Rattle.score.specs.Page.{keepRow, keepRows, keepBeat}
 use Rattle.draft.specs.declared.Draft.{Draft}
 use Rattle.draft.specs.Steps.{anyOf}
 use Rattle.draft.specs.Meant.{membersIn, draftIn}
-use Rattle.page.specs.Words.{words}
-use Rattle.page.specs.Meant.{rowingOf, drawn, undrawn}
-use Rattle.page.specs.Entry.{keptAfter, voiceAfter}
+use Rattle.page.specs.declared.points.Bent.{Bent}
+use Rattle.words.specs.Words.{words}
+use Rattle.words.specs.Meant.{rowingOf}
+use Rattle.page.specs.Meant.{undrawn}
+use Rattle.page.specs.Entry.{bentOf, entryOf, keptAfter, voiceAfter}
 use Rattle.page.proofs.Picked.{picked}
 use Rattle.page.proofs.Entering.{members-stored, points-stored, ties-started}
 use Rattle.page.proofs.Entering.{hammer-turned, run-turned, same-kind}
 
 -- ---- one row, table by table
-module _ (s : List ℕ) (d : Draft) (kept : Kept) (voice : Voice) (curve : Slots) (rows members points : List ℕ) where
-  pub row-kept : {r n m p : List ℕ} {k : Kept} {v : Voice} → shown curve ≡ curveOf (bendIn s (d .bend))
+module _ (s : List ℕ) (d : Draft) (kept : Kept) (voice : Voice) (rows members points : List ℕ) where
+  pub row-kept : {bent : Bent} {r n m p : List ℕ} {k : Kept} {v : Voice} → bent ≡ bentOf (curveOf (bendIn s (d .bend)))
+      → p ≡ stores pointWords pointStride points (kept .points) (curveOf (bendIn s (d .bend)))
       → r ≡ sets
       (turnRun (words []) (voice .run) (undrawn d) (turnHammer (words []) (voice .hammer) (undrawn d) rows))
       (kept .rows * rowStride)
-      (rowWords (rowEntry (drawn (shown curve) d) (ottavaMarks (undrawn d) (voice .run)) kept))
+      (rowWords (entryOf (undrawn d) bent (ottavaMarks (undrawn d) (voice .run)) kept))
       → n ≡ startTies (words []) (voice .last) (membersIn (d .members)) members
       → m ≡ stores memberWords memberStride n (kept .members) (fingered (membersIn (d .members)))
-      → p ≡ stores pointWords pointStride points (kept .points) (shown curve)
-      → k ≡ keptAfter (drawn (shown curve) d) kept
+      → k ≡ keptAfter (undrawn d) bent kept
       → v ≡ voiceAfter (undrawn d) kept voice
       → rowingOf r m p k v ≡ keepRow (words s) (draftIn s d) (rowingOf rows members points kept voice)
-  unfolding keepRow
-  row-kept e er en em ep ek ev =
+  unfolding keepRow rowEntry
+  row-kept e ep er en em ek ev =
       let ms = membersIn (d .members) in
       let its = curveOf (bendIn s (d .bend)) in
       rw (

@@ -1,22 +1,31 @@
 -- Parts of the entry of a row, and of what is remembered after it. Assumes nothing.
 use Prim.Native.Nat.{ℕ}
+use mathlib.Core.List.{List}
 use lib.ListN.{length}
 use Rattle.model.specs.declared.Expression.{Expression}
+use Rattle.model.specs.declared.OttavaMarks.{OttavaMarks}
 use Rattle.model.specs.declared.Playing.{Playing}
+use Rattle.model.specs.declared.Point.{Point}
+use Rattle.model.specs.declared.Row.{Row}
 use Rattle.curve.specs.Bend.{curveHeight}
 use Rattle.score.specs.declared.Kept.{Kept}
 use Rattle.score.specs.declared.Voice.{Voice}
-use Rattle.score.specs.Page.{spanOf, textLeft, heightAt, dynamicAt, hammerAfter, lastAfter, runAfter}
+use Rattle.score.specs.Page.{spanOf, textLeft, heightAt, dynamicAt, plainFinger, hammerAfter, lastAfter, runAfter}
 use Rattle.score.specs.Rows.{RowIs}
-use Rattle.page.specs.Words.{wordPlus}
+use Rattle.page.specs.declared.points.Bent.{Bent}
+use Rattle.words.specs.Words.{wordPlus}
 
-abbrev pub playingOf : RowIs → (first : ℕ) → Playing
-playingOf r first =
+-- what a row holds of its curve
+abbrev pub bentOf : List Point → Bent
+bentOf curve = record { count = length curve; height = heightAt (curveHeight curve) }
+
+abbrev pub playingOf : RowIs → Bent → (first : ℕ) → Playing
+playingOf r bent first =
     record {
       text = textLeft (r .text);
       technique = r .technique;
-      curve = spanOf first (length (r .curve));
-      height = heightAt (curveHeight (r .curve));
+      curve = spanOf first (bent .count);
+      height = bent .height;
     }
 
 abbrev pub expressionOf : RowIs → Expression
@@ -28,12 +37,28 @@ expressionOf r =
       head = r .head;
     }
 
-abbrev pub keptAfter : RowIs → Kept → Kept
-keptAfter r kept =
+-- `rowEntry` of Page, for a row whose curve is known by what a row holds of it
+abbrev pub entryOf : RowIs → Bent → OttavaMarks → Kept → Row
+entryOf r bent marks kept =
+    record {
+      place = r .place;
+      kind = r .kind;
+      rest = r .rest;
+      value = r .value;
+      members = spanOf (kept .members) (length (r .members));
+      playing = playingOf r bent (kept .points);
+      expression = expressionOf r;
+      ottava = marks;
+      chord = r .chord;
+      finger = plainFinger (r .members);
+    }
+
+abbrev pub keptAfter : RowIs → Bent → Kept → Kept
+keptAfter r bent kept =
     record {
       rows = wordPlus (kept .rows) 1;
       members = wordPlus (kept .members) (length (r .members));
-      points = wordPlus (kept .points) (length (r .curve));
+      points = wordPlus (kept .points) (bent .count);
     }
 
 abbrev pub voiceAfter : RowIs → Kept → Voice → Voice

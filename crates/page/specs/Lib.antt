@@ -1,7 +1,2 @@
-pub mod Words
-pub mod Reports
-pub mod Lent
-pub mod Meant
 pub mod Entry
-pub mod Heads
-pub mod Entered
+pub mod Meant

@@ -1,20 +1,9 @@
 -- What the values of this crate mean. Assumes nothing.
-use Prim.Native.Nat.{ℕ}
 use mathlib.Core.List.{List, []}
 use Rattle.model.specs.declared.Point.{Point}
-use Rattle.score.specs.declared.Kept.{Kept}
-use Rattle.score.specs.declared.Voice.{Voice}
-use Rattle.score.specs.declared.Tally.{Tally}
-use Rattle.score.specs.Page.{Rowing, Walk}
 use Rattle.score.specs.Rows.{RowIs}
 use Rattle.draft.specs.declared.Draft.{Draft}
 use Rattle.draft.specs.Meant.{membersIn}
-use Rattle.page.specs.Words.{Words}
-
--- the tables that a row is entered in, with what is remembered
-abbrev pub rowingOf : (rows members points : List ℕ) → Kept → Voice → Rowing Words
-rowingOf rows members points kept voice =
-    record { rows = rows; members = members; points = points; kept = kept; voice = voice }
 
 -- a row whose curve is given: `draftIn s d` is `drawn` of the curve of its bend in s
 abbrev pub drawn : List Point → Draft → RowIs
@@ -39,8 +28,3 @@ drawn curve d =
 -- what a row does to the rows before it does not depend on its curve
 abbrev pub undrawn : Draft → RowIs
 undrawn d = drawn [] d
-
--- the tables that beats are entered in, with what is counted
-abbrev pub walkOf : (bars rows members points texts parts : List ℕ) → Tally → Walk Words
-walkOf bars rows members points texts parts tally =
-    record { bars = bars; rows = rows; members = members; points = points; texts = texts; parts = parts; tally = tally }

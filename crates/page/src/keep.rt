@@ -1,11 +1,9 @@
 // The rows of a kept beat, entered one after another with their members and their curves.
 use crate::members;
-use crate::plus;
 use crate::points;
+use crate::points::Bent;
 use crate::rows;
 use beat::Beat;
-use curve::bend;
-use curve::bend::Slots;
 use draft::Chord;
 use draft::Draft;
 use model::Place;
@@ -14,15 +12,16 @@ use model::Span;
 use score::Fretboard;
 use score::Kept;
 use score::Voice;
+use words::plus;
 ghost use mathlib.Core.Path.{_≡_};
 ghost use Rattle.beat.specs.Beat.{beatIn};
-ghost use Rattle.curve.specs.Slots.{shown};
 ghost use Rattle.score.specs.Page.{lastAfter, keepRow, keepRows, keepBeat};
 ghost use Rattle.score.specs.Members.{graces};
 ghost use Rattle.score.specs.Rows.{graceRows};
 ghost use Rattle.draft.specs.Meant.{chordIn, draftIn};
-ghost use Rattle.page.specs.Words.{words};
-ghost use Rattle.page.specs.Meant.{rowingOf, drawn, undrawn};
+ghost use Rattle.words.specs.Words.{words};
+ghost use Rattle.words.specs.Meant.{rowingOf};
+ghost use Rattle.page.specs.Meant.{undrawn};
 ghost use Rattle.page.specs.Entry.{keptAfter, voiceAfter};
 
 // What is kept and what the voice remembers, once a row is entered.
@@ -31,14 +30,14 @@ pub struct Rowed {
     pub voice: Voice,
 }
 
-fn kept_after(draft: Draft, curve: Slots, kept: Kept) -> Kept
-    ensures { λ r. ⌜ r ≡ keptAfter (drawn (shown curve) draft) kept ⌝ }
+fn kept_after(draft: Draft, bent: Bent, kept: Kept) -> Kept
+    ensures { λ r. ⌜ r ≡ keptAfter (undrawn draft) bent kept ⌝ }
 {
     let members = draft.members;
     Kept {
         rows: plus(kept.rows, 1),
         members: plus(kept.members, members::number_of(members) as u32),
-        points: plus(kept.points, bend::point_count(curve) as u32),
+        points: plus(kept.points, bent.count),
     }
 }
 
@@ -88,12 +87,11 @@ pub fn keep_row(
     let bend = draft.bend;
     let added = draft.members;
     let last = voice.last;
-    let curve = points::curve_of(s, bend);
-    rows::add_row(rows, draft, curve, kept, voice);
+    let bent = points::add_curve(s, points, kept.points, bend);
+    rows::add_row(rows, draft, bent, kept, voice);
     members::start_ties(members, last, added);
     members::add_members(members, kept.members, added);
-    points::add_points(points, kept.points, curve);
-    let kept_now = kept_after(draft, curve, kept);
+    let kept_now = kept_after(draft, bent, kept);
     let voice_now = voice_after(draft, kept, voice);
     Rowed {
         kept: kept_now,

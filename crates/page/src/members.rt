@@ -16,7 +16,7 @@ ghost use Rattle.tables.specs.Table.{stores};
 ghost use Rattle.entries.specs.Words.{memberStride, memberWords};
 ghost use Rattle.score.specs.Page.{plainFinger, unfingered, fingered, firstKey, lowerFirst, startTies};
 ghost use Rattle.draft.specs.Meant.{membersIn};
-ghost use Rattle.page.specs.Words.{answersWord, startWords, words};
+ghost use Rattle.words.specs.Words.{answersWord, startWords, words};
 
 pub(crate) fn number_of(members: Members) -> usize
     ensures { λ r. ⌜ (r ≡ length (membersIn members)) × (r ≤ 7) ⌝ }

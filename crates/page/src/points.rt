@@ -1,17 +1,31 @@
 // The curve of a bend: gathered where its points stand in the file, and entered in the table of points.
-use beat::bend::Bend;
 use curve::bend;
 use curve::bend::NextPoint;
 use curve::bend::Slots;
 use entries::points::store_point;
+use model::Height;
+use note::bend::Bend;
 ghost use mathlib.Core.Path.{_≡_};
 ghost use Prim.Native.Nat.{_+_, _<_, min};
 ghost use lib.ListN.{length, getD};
 ghost use Rattle.tables.specs.Table.{stores};
 ghost use Rattle.entries.specs.Words.{pointStride, pointWords};
 ghost use Rattle.curve.specs.Slots.{shown};
-ghost use Rattle.beat.specs.Points.{word, bendIn};
+ghost use Rattle.note.specs.Points.{word, bendIn};
 ghost use Rattle.score.specs.Rows.{curveOf};
+ghost use Rattle.score.specs.Page.{heightAt};
+ghost use Rattle.page.specs.Entry.{bentOf};
+
+// What a row holds of its curve: how many points, and its height.
+pub struct Bent {
+    pub count: u32,
+    pub height: Height,
+}
+
+const STRAIGHT: Bent = Bent {
+    count: 0,
+    height: Height::NoHeight,
+};
 
 // The bytes of a point: its offset, its value, its vibrato.
 const POINT: usize = 9;
@@ -54,7 +68,7 @@ fn point_after(s: &[u8], at: usize) -> usize
     s.len()
 }
 
-pub(crate) fn curve_of(s: &[u8], bend: Bend) -> Slots
+fn curve_of(s: &[u8], bend: Bend) -> Slots
     ensures { λ r. ⌜ shown r ≡ curveOf (bendIn (now (s .entry)) bend) ⌝ }
 {
     let mut slots = bend::no_points();
@@ -68,7 +82,7 @@ pub(crate) fn curve_of(s: &[u8], bend: Bend) -> Slots
     bend::finished(slots)
 }
 
-pub(crate) fn add_points(points: &mut [u32], first: u32, curve: Slots)
+fn add_points(points: &mut [u32], first: u32, curve: Slots)
     ensures { λ _. ⌜ now (points .exit) ≡ stores pointWords pointStride (now (points .entry)) first (shown curve) ⌝ }
 {
     let mut n = first as usize;
@@ -83,4 +97,29 @@ pub(crate) fn add_points(points: &mut [u32], first: u32, curve: Slots)
         from = next;
         left -= 1;
     }
+}
+
+fn height_at(height: bend::Height) -> Height
+    ensures { λ r. ⌜ r ≡ heightAt height ⌝ }
+{
+    match height {
+        bend::Height::Absent => Height::NoHeight,
+        bend::Height::Given(c) => Height::Peak(c),
+    }
+}
+
+// A note without a bend, as most are, costs no curve.
+pub(crate) fn add_curve(s: &[u8], points: &mut [u32], first: u32, bend: Bend) -> Bent
+    ensures points { λ _. ⌜ now (points .exit)
+        ≡ stores pointWords pointStride (now (points .entry)) first (curveOf (bendIn (now (s .entry)) bend)) ⌝ }
+    ensures bent { λ r. ⌜ r ≡ bentOf (curveOf (bendIn (now (s .entry)) bend)) ⌝ }
+{
+    if bend.count == 0 {
+        return STRAIGHT;
+    }
+    let curve = curve_of(s, bend);
+    add_points(points, first, curve);
+    let count = bend::point_count(curve) as u32;
+    let height = height_at(bend::curve_height(curve));
+    Bent { count, height }
 }

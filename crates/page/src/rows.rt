@@ -1,7 +1,6 @@
 // The entry of a row, and what the row does to those of its voice before it.
 use crate::members;
-use curve::bend;
-use curve::bend::Slots;
+use crate::points::Bent;
 use curve::level::Level;
 use draft::Draft;
 use entries::rows::set_ottava_end;
@@ -9,7 +8,6 @@ use entries::rows::set_technique;
 use entries::rows::store_row;
 use model::Dynamic;
 use model::Expression;
-use model::Height;
 use model::Ottava;
 use model::OttavaMarks;
 use model::Playing;
@@ -27,12 +25,11 @@ ghost use mathlib.Core.List.{[]};
 ghost use Prim.Native.Nat.{_*_};
 ghost use lib.Seq.{sets};
 ghost use Rattle.entries.specs.Words.{rowStride, rowWords};
-ghost use Rattle.curve.specs.Slots.{shown};
-ghost use Rattle.score.specs.Page.{spanOf, marked, textLeft, dynamicAt, heightAt, rowEntry};
+ghost use Rattle.score.specs.Page.{spanOf, marked, textLeft, dynamicAt};
 ghost use Rattle.score.specs.Page.{pulls, hammerAfter, turnHammer, under, sameKind, ottavaMarks, runAfter, turnRun};
-ghost use Rattle.page.specs.Words.{words};
-ghost use Rattle.page.specs.Meant.{drawn, undrawn};
-ghost use Rattle.page.specs.Entry.{playingOf, expressionOf};
+ghost use Rattle.words.specs.Words.{words};
+ghost use Rattle.page.specs.Meant.{undrawn};
+ghost use Rattle.page.specs.Entry.{playingOf, expressionOf, entryOf};
 
 // ---- hammers and pull-offs
 
@@ -166,23 +163,14 @@ fn dynamic_at(level: Level) -> Dynamic
     }
 }
 
-fn height_at(height: bend::Height) -> Height
-    ensures { λ r. ⌜ r ≡ heightAt height ⌝ }
-{
-    match height {
-        bend::Height::Absent => Height::NoHeight,
-        bend::Height::Given(c) => Height::Peak(c),
-    }
-}
-
-fn playing_of(draft: Draft, curve: Slots, first: u32) -> Playing
-    ensures { λ r. ⌜ r ≡ playingOf (drawn (shown curve) draft) first ⌝ }
+fn playing_of(draft: Draft, bent: Bent, first: u32) -> Playing
+    ensures { λ r. ⌜ r ≡ playingOf (undrawn draft) bent first ⌝ }
 {
     let text = draft.text;
     let technique = draft.technique;
     let left = text_left(text);
-    let span = span_of(first, bend::point_count(curve) as u32);
-    let height = height_at(bend::curve_height(curve));
+    let span = span_of(first, bent.count);
+    let height = bent.height;
     Playing {
         text: left,
         technique,
@@ -207,15 +195,15 @@ fn expression_of(draft: Draft) -> Expression
     }
 }
 
-fn row_entry(draft: Draft, curve: Slots, marks: OttavaMarks, kept: Kept) -> Row
-    ensures { λ r. ⌜ r ≡ rowEntry (drawn (shown curve) draft) marks kept ⌝ }
+fn row_entry(draft: Draft, bent: Bent, marks: OttavaMarks, kept: Kept) -> Row
+    ensures { λ r. ⌜ r ≡ entryOf (undrawn draft) bent marks kept ⌝ }
 {
     let place = draft.place;
     let kind = draft.kind;
     let value = draft.value;
     let members = draft.members;
     let span = span_of(kept.members, members::number_of(members) as u32);
-    let playing = playing_of(draft, curve, kept.points);
+    let playing = playing_of(draft, bent, kept.points);
     let expression = expression_of(draft);
     let chord = draft.chord;
     let finger = members::plain_finger(members);
@@ -233,18 +221,18 @@ fn row_entry(draft: Draft, curve: Slots, marks: OttavaMarks, kept: Kept) -> Row
     }
 }
 
-pub(crate) fn add_row(rows: &mut [u32], draft: Draft, curve: Slots, kept: Kept, voice: Voice)
+pub(crate) fn add_row(rows: &mut [u32], draft: Draft, bent: Bent, kept: Kept, voice: Voice)
     ensures { λ _. ⌜ now (rows .exit)
         ≡ sets
         (turnRun (words []) (voice .run) (undrawn draft)
         (turnHammer (words []) (voice .hammer) (undrawn draft) (now (rows .entry))))
         (kept .rows * rowStride)
-        (rowWords (rowEntry (drawn (shown curve) draft) (ottavaMarks (undrawn draft) (voice .run)) kept)) ⌝ }
+        (rowWords (entryOf (undrawn draft) bent (ottavaMarks (undrawn draft) (voice .run)) kept)) ⌝ }
 {
     let hammer = voice.hammer;
     let run = voice.run;
     turn_hammer(rows, hammer, draft);
     turn_run(rows, run, draft);
-    let row = row_entry(draft, curve, ottava_marks(draft, run), kept);
+    let row = row_entry(draft, bent, ottava_marks(draft, run), kept);
     store_row(rows, kept.rows as usize, row);
 }

@@ -1,7 +1,7 @@
 -- The three ways in which a reading ends. Assumes nothing.
-use Prim.Native.Nat.{ℕ, _*_, _≤_}
-use mathlib.Core.Path.{_≡_, refl, sym, _∙_}
-use mathlib.Core.Bool.{true, false}
+use Prim.Native.Nat.{ℕ}
+use mathlib.Core.Path.{_≡_, refl, ap, sym, _∙_}
+use mathlib.Core.Bool.{Bool, true, false}
 use mathlib.Core.List.{List}
 use lib.Dec.{ltb}
 use lib.ListN.{length}
@@ -11,12 +11,14 @@ use Rattle.format.specs.declared.Stop.{Stop}
 use Rattle.format.specs.Outcome.{LIMIT, upTo}
 use Rattle.format.specs.Yields.{Bytes}
 use Rattle.model.specs.declared.Answer.{Answer}
+use Rattle.model.specs.declared.Sizes.{Sizes}
 use Rattle.model.specs.Answers.{refusal, noRoomAnswer}
 use Rattle.score.specs.declared.Tally.{Tally}
 use Rattle.score.specs.Reading.{Tables, refused, enough, songOf, reading}
 use Rattle.refine.specs.Rooms.{neededBy}
-use Rattle.refine.specs.Returns.{stopAnswer, refused-is, no-room-is, never-stops, read-is}
-use Rattle.reader.specs.declared.front.SongRead.{SongRead}
+use Rattle.refine.specs.Counting.{Enters, counted-stop, counted-end}
+use Rattle.refine.specs.Returns.{stopAnswer, roomsBy, refused-is, no-room-is, never-stops, read-is}
+use Rattle.front.specs.declared.SongRead.{SongRead}
 use Rattle.reader.specs.Passed.{wholeOf}
 use Rattle.reader.specs.Result.{FirstPass, Fills}
 
@@ -27,11 +29,19 @@ at-same e f = cc
 module _ (d : List ℕ) (bytes : Bytes d) (t : Tables) {s : List ℕ} (is : s ≡ upTo LIMIT d) {song : SongRead} {tally : Tally} where
   pub ends-refused : {at : Place} {x : Stop} → FirstPass s song tally at → at ≡ Stopped x
       → refused (refusal (stopAnswer (ltb LIMIT (length d)) x)) t ≡ reading d t
-  ends-refused {x = x} f e = sym (refused-is d bytes t (f .before) (f .own) x (rw (e, is) at (f .passes .reaches .reaches)))
+  ends-refused {x = x} f e = sym (refused-is d bytes t (f .before) (f .own) x (counted-stop d bytes (f .before) x (rw (e, is) at (f .passes .reaches .reaches))))
 
   module _ {at : Place} {n : ℕ} (f : FirstPass s song tally at) (e : at ≡ At n) where
+    -- a pass that enters would end there too, and need the same rooms
+    again : Enters d (f .before) (wholeOf song (f .passes .programs) (f .passes .parts) (f .passes .losses) (f .after) tally) n
+    again = counted-end d bytes (f .before) _ n (rw (e, is) at (f .passes .reaches .reaches))
+
+    enough-again : {b : Bool} → enough (neededBy (song .counts) tally) t ≡ b → enough (roomsBy (again .score)) t ≡ b
+    enough-again h = sym (ap (λ (k : Sizes). enough k t) (again .needs)) ∙ h
+
     pub ends-short : enough (neededBy (song .counts) tally) t ≡ false → refused (noRoomAnswer (neededBy (song .counts) tally)) t ≡ reading d t
-    ends-short h = sym (no-room-is d bytes t (f .before) (f .own) _ n (rw (e, is) at (f .passes .reaches .reaches)) h)
+    ends-short h =
+        rw (again .needs) (sym (no-room-is d bytes t (f .before) (f .own) (again .score) n (again .is) (enough-again h)))
 
     pub ends-read : enough (neededBy (song .counts) tally) t ≡ true → (after : Tables) (answer : Answer) → Fills s t after answer
         → record { answer = answer; tables = after } ≡ reading d t
@@ -39,5 +49,10 @@ module _ (d : List ℕ) (bytes : Bytes d) (t : Tables) {s : List ℕ} (is : s �
     ends-read h after answer w = go (w .next) refl
       where
         go : (to : Place) → w .next ≡ to → record { answer = answer; tables = after } ≡ reading d t
-        go (At m) g = rw (w .answers m g) (sym (read-is d bytes t (f .before) (f .own) _ n (rw (e, is) at (f .passes .reaches .reaches)) (w .parts) (w .own) h _ m (rw (g, is) at (w .passes .reaches .reaches))))
-        go (Stopped x) g = absurd (never-stops d bytes t (f .before) (f .own) _ n (rw (e, is) at (f .passes .reaches .reaches)) (w .parts) (w .own) x (rw (g, is) at (w .passes .reaches .reaches)))
+        go (At m) g =
+            rw (w .answers m g)
+            (sym (read-is d bytes t (f .before) (f .own) (again .score) n (again .is) (w .parts) (w .own)
+            (enough-again h) _ m (rw (g, is) at (w .passes .reaches .reaches))))
+        go (Stopped x) g =
+            absurd (never-stops d bytes t (f .before) (f .own) (again .score) n (again .is) (w .parts) (w .own) x
+            (rw (g, is) at (w .passes .reaches .reaches)))

@@ -1,4 +1,2 @@
-pub mod Beats
-pub mod Places
 pub mod Passing
 pub mod Ends

@@ -9,8 +9,8 @@ use Rattle.entries.specs.Words.{tempoAt}
 use Rattle.score.specs.declared.Tally.{Tally}
 use Rattle.score.specs.Reading as Reading
 use Rattle.refine.specs.Rooms.{neededBy, entriesBy}
-use Rattle.reader.specs.declared.front.SongRead.{SongRead}
-use Rattle.reader.specs.Front.{songOf}
+use Rattle.front.specs.declared.SongRead.{SongRead}
+use Rattle.front.specs.Front.{songOf}
 
 abbrev pub tables : (bars tracks rows members points texts : List ℕ) → Reading.Tables
 tables bars tracks rows members points texts =

@@ -1,6 +1,3 @@
-pub mod Front
-pub mod Steps
-pub mod Entering
 pub mod Passed
 pub mod Started
 pub mod Answered

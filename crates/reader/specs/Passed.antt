@@ -1,5 +1,6 @@
 -- One pass over a file, into the words of seven slices. Assumes nothing.
 use Prim.Native.Nat.{ℕ}
+use mathlib.Core.Bool.{Bool}
 use mathlib.Core.List.{List}
 use Rattle.format.specs.declared.Place.{Place}
 use Rattle.format.specs.declared.Place.the-variants.{At}
@@ -7,12 +8,13 @@ use Rattle.format.specs.Place.{Reaches}
 use Rattle.score.specs.declared.Tally.{Tally}
 use Rattle.score.specs.File.{Whole, file}
 use Rattle.score.specs.Page.{Staves, Walk, keeping}
-use Rattle.reader.specs.declared.front.SongRead.{SongRead}
-use Rattle.page.specs.Words.{Words, words}
-use Rattle.page.specs.Meant.{walkOf}
-use Rattle.page.specs.Heads.{stavesOf}
-use Rattle.reader.specs.Front.{songOf}
-use Rattle.page.specs.Lent.{Lent, lent}
+use Rattle.front.specs.declared.SongRead.{SongRead}
+use Rattle.words.specs.Words.{Words, words}
+use Rattle.words.specs.Counted.{passing}
+use Rattle.words.specs.Meant.{walkOf}
+use Rattle.words.specs.Heads.{stavesOf}
+use Rattle.front.specs.Front.{songOf}
+use Rattle.words.specs.Lent.{Lent, lent}
 
 -- a whole file in the slices; what the tracks left in the reader's own is written over by the beats
 abbrev pub wholeOf : SongRead → List (List ℕ) → (parts losses : List ℕ) → Lent → Tally → Whole (Staves Words) (Walk Words)
@@ -24,8 +26,8 @@ wholeOf song programs parts losses t tally =
     }
 
 -- from the start of the file to where the reading ends, or stops
-pub record Passes (s : List ℕ) (before after : Lent) (song : SongRead) (tally : Tally) (next : Place) : Type 0 where
+pub record Passes (counting : Bool) (s : List ℕ) (before after : Lent) (song : SongRead) (tally : Tally) (next : Place) : Type 0 where
   pub programs : List (List ℕ)
   pub parts : List ℕ
   pub losses : List ℕ
-  pub reaches : Reaches (file (keeping (words s) (lent before))) s (At 0) (wholeOf song programs parts losses after tally) next
+  pub reaches : Reaches (file (passing counting (keeping (words s) (lent before)))) s (At 0) (wholeOf song programs parts losses after tally) next

@@ -1,8 +1,9 @@
 // The answer of a reading, by what its passes left.
-use crate::front::SongRead;
 use crate::pass::Passed;
 use format::Counted;
 use format::Stop;
+use front::SongRead;
+use header::Counts;
 use model::Answer;
 use model::Losses;
 use model::LyricLine;
@@ -14,7 +15,6 @@ use model::Song;
 use model::Tempo;
 use model::kinds;
 use score::Tally;
-use song::header::Counts;
 use song::info;
 ghost use mathlib.Core.Path.{_≡_};
 ghost use mathlib.Core.List.{[]};
@@ -25,7 +25,7 @@ ghost use Rattle.score.specs.Reading as reading;
 ghost use Rattle.score.specs.Score.{firstTempo};
 ghost use Rattle.refine.specs.Rooms.{neededBy, entriesBy};
 ghost use Rattle.refine.specs.Returns.{stopAnswer};
-ghost use Rattle.reader.specs.Front.{songOf};
+ghost use Rattle.front.specs.Front.{songOf};
 ghost use Rattle.reader.specs.Answered.{tables, answered};
 
 fn count_refused(which: Counted, value: u32) -> Outcome

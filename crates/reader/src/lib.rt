@@ -11,10 +11,7 @@ ghost use Rattle.reader.specs.Answered.{tables};
 ghost use Rattle.reader.specs.Result.{result, FirstPass, Fills};
 
 mod answer; // the answer, by what the passes left
-mod enter; // a beat is entered in the tables
-mod front; // the song, the headers and the tracks
 mod pass; // one pass over a file
-mod walk; // bars, tracks, voices and beats
 
 // What is remembered of a hundred tracks.
 const OWN: usize = 4200;
@@ -29,7 +26,7 @@ fn up_to(data: &[u8], n: usize) -> &[u8]
     data
 }
 
-// A pass that fills nothing: whether the file is read, and the rooms that it needs.
+// A pass that only counts: whether the file is read, and the rooms that it needs.
 fn first_pass(s: &[u8]) -> Passed
     ensures { λ r. ⌜ FirstPass (now (s .entry)) (r .song) (r .tally) (r .next) ⌝ }
 {
@@ -42,6 +39,7 @@ fn first_pass(s: &[u8]) -> Passed
     let mut parts = [0u32; OWN];
     pass::pass(
         s,
+        true,
         &mut bars,
         &mut tracks,
         &mut rows,
@@ -65,7 +63,17 @@ fn fill(
     ensures { λ r. ⌜ Fills (now (s .entry)) (tables (now (bars .entry)) (now (tracks .entry)) (now (rows .entry)) (now (members .entry)) (now (points .entry)) (now (texts .entry))) (tables (now (bars .exit)) (now (tracks .exit)) (now (rows .exit)) (now (members .exit)) (now (points .exit)) (now (texts .exit))) r ⌝ }
 {
     let mut parts = [0u32; OWN];
-    let passed = pass::pass(s, bars, tracks, rows, members, points, texts, &mut parts);
+    let passed = pass::pass(
+        s,
+        false,
+        bars,
+        tracks,
+        rows,
+        members,
+        points,
+        texts,
+        &mut parts,
+    );
     let at = passed.next;
     let Place::At(used) = at else {
         return model::answers::refused(Outcome::Truncated);

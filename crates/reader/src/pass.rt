@@ -1,6 +1,6 @@
 // One pass over a file: the song, the headers, the tracks and the bars.
-use crate::front::SongRead;
 use format::Place;
+use front::SongRead;
 use model::Key;
 use model::Mode;
 use model::Time;
@@ -8,7 +8,7 @@ use score::Before;
 use score::Kept;
 use score::Tally;
 ghost use mathlib.Core.Path.{_≡_};
-ghost use Rattle.page.specs.Lent.{lentOf};
+ghost use Rattle.words.specs.Lent.{lentOf};
 ghost use Rattle.reader.specs.Passed.{Passes};
 ghost use Rattle.reader.specs.Started as started;
 
@@ -52,6 +52,7 @@ fn before_beats(losses: [u32; 17]) -> Tally
 
 pub fn pass(
     s: &[u8],
+    counting: bool,
     bars: &mut [u32],
     tracks: &mut [u32],
     rows: &mut [u32],
@@ -60,16 +61,16 @@ pub fn pass(
     texts: &mut [u32],
     parts: &mut [u32],
 ) -> Passed
-    ensures { λ r. ⌜ Passes (now (s .entry)) (lentOf (now (bars .entry)) (now (tracks .entry)) (now (rows .entry)) (now (members .entry)) (now (points .entry)) (now (texts .entry)) (now (parts .entry))) (lentOf (now (bars .exit)) (now (tracks .exit)) (now (rows .exit)) (now (members .exit)) (now (points .exit)) (now (texts .exit)) (now (parts .exit))) (r .song) (r .tally) (r .next) ⌝ }
+    ensures { λ r. ⌜ Passes counting (now (s .entry)) (lentOf (now (bars .entry)) (now (tracks .entry)) (now (rows .entry)) (now (members .entry)) (now (points .entry)) (now (texts .entry)) (now (parts .entry))) (lentOf (now (bars .exit)) (now (tracks .exit)) (now (rows .exit)) (now (members .exit)) (now (points .exit)) (now (texts .exit)) (now (parts .exit))) (r .song) (r .tally) (r .next) ⌝ }
 {
     let mut programs = [[0u8; 16]; 4];
-    let song = crate::front::song_at(s, Place::At(0), &mut programs);
+    let song = front::song_at(s, Place::At(0), &mut programs);
     let v = song.version;
     let at = song.next;
     let counts = song.counts;
     let numbers = song.directions;
-    let lost = page::losses::song_losses(song.swing, numbers);
-    let heads = crate::front::headers(
+    let lost = losses::song_losses(song.swing, numbers);
+    let heads = front::headers(
         s,
         at,
         v,
@@ -82,13 +83,14 @@ pub fn pass(
     );
     let at = heads.next;
     let lost = heads.losses;
-    let staves = crate::front::all_tracks(s, at, v, programs, counts.tracks, lost, tracks, parts);
+    let staves = front::all_tracks(s, at, v, programs, counts.tracks, lost, tracks, parts);
     let at = staves.next;
     let lost = staves.losses;
-    let walked = crate::walk::all_bars(
+    let walked = walk::all_bars(
         s,
         at,
         v,
+        counting,
         counts.bars,
         counts.tracks,
         before_beats(lost),

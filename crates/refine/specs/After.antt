@@ -20,8 +20,8 @@ use Rattle.score.specs.Page.{Kind, texts, parts, TextIs, Tables, Walk, Rowing, 
 use Rattle.score.specs.Page.{hasText, report, keepText, textsAfter}
 use Rattle.score.specs.Score.{Lists, lists, withVoice, withRunning}
 use Rattle.score.specs.Facts.{BeatFacts}
-use Rattle.page.specs.Lent.{Lent}
-use Rattle.page.specs.Words.{LARGEST, Words, words}
+use Rattle.words.specs.Lent.{Lent}
+use Rattle.words.specs.Words.{LARGEST, Words, words}
 use Rattle.refine.specs.All.{All, all-get, all-more, all-change, all-weaker}
 use Rattle.refine.specs.Alike.{VoiceWithin, PartWithin, Room, TablesShown, WalkShown}
 use Rattle.refine.specs.Counts.{plus-is, UpTo, report-up-to, report-is}

@@ -14,8 +14,8 @@ use Rattle.score.specs.declared.Voice.{Voice}
 use Rattle.score.specs.File.{Song}
 use Rattle.score.specs.Page.{bars, tracks, rows, members, points, texts, parts, Heads, Staves, Walk}
 use Rattle.score.specs.Score.{Lists}
-use Rattle.page.specs.Lent.{Lent}
-use Rattle.page.specs.Words.{Words}
+use Rattle.words.specs.Lent.{Lent}
+use Rattle.words.specs.Words.{Words}
 use Rattle.refine.specs.All.{All}
 use Rattle.refine.specs.Counts.{UpTo}
 use Rattle.refine.specs.Ops.{TextHeld}

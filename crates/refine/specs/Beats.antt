@@ -20,8 +20,8 @@ use Rattle.score.specs.Page.{Kind, Tables, Walk, Rowing, bendRooms, withFrets}
 use Rattle.score.specs.Page.{keepRows, runningAfter, beatLosses, addBeat}
 use Rattle.score.specs.Score.{Lists, lists, noPart, voiceOf}
 use Rattle.score.specs.Facts.{BeatFacts, CountsFacts}
-use Rattle.page.specs.Lent.{Lent}
-use Rattle.page.specs.Words.{partStride, Words, words}
+use Rattle.words.specs.Lent.{Lent}
+use Rattle.words.specs.Words.{partStride, Words, words}
 use Rattle.refine.specs.All.{All, all-get, all-weaker}
 use Rattle.refine.specs.After.{afterRows, BeatKept, walk-after}
 use Rattle.refine.specs.Alike.{VoiceWithin, PartWithin, WalkShown}

@@ -9,7 +9,7 @@ use Rattle.model.specs.declared.Loss.{Loss}
 use Rattle.model.specs.Answers.{lossNumber}
 use Rattle.score.specs.Page.{Kind, Tables, report}
 use Rattle.score.specs.Score.{lists}
-use Rattle.page.specs.Words.{LARGEST, wordPlus, words}
+use Rattle.words.specs.Words.{LARGEST, wordPlus, words}
 use Rattle.refine.specs.All.{All, all-getD, all-set, all-weaker}
 
 pub plus-is : (a b : ℕ) → a + b ≤ LARGEST → wordPlus a b ≡ a + b

@@ -6,8 +6,8 @@ use Rattle.format.specs.Outcome.{LIMIT}
 use Rattle.score.specs.Follow.{Relations, Alike}
 use Rattle.score.specs.Page.{Heads, Staves, Walk, keeping}
 use Rattle.score.specs.Score.{Lists, lists, none}
-use Rattle.page.specs.Lent.{Lent, lent}
-use Rattle.page.specs.Words.{partStride, Words, words}
+use Rattle.words.specs.Lent.{Lent, lent}
+use Rattle.words.specs.Words.{partStride, Words, words}
 use Rattle.refine.specs.Alike.{HeadsShown, StavesShown, WalkShown}
 use Rattle.refine.specs.Beats.{beat-shown, walk-later}
 use Rattle.refine.specs.Heads.{headers-start, header-shown, tracks-start, track-shown}

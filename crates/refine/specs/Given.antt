@@ -11,8 +11,8 @@ use Rattle.model.specs.declared.Place.{Place}
 use Rattle.model.specs.declared.Point.{Point}
 use Rattle.curve.specs.Bend.{finish, pointOf}
 use Rattle.curve.specs.Laws.{finish-room}
-use Rattle.beat.specs.declared.marks.NoteEffects.{NoteEffects}
-use Rattle.beat.specs.Points.{BendPoint}
+use Rattle.note.specs.declared.marks.NoteEffects.{NoteEffects}
+use Rattle.note.specs.Points.{BendPoint}
 use Rattle.beat.specs.Beat.{BeatIs}
 use Rattle.score.specs.declared.Fretboard.{Fretboard}
 use Rattle.score.specs.Members.{Keyed, positionOf, memberOf, Graced, graces, graceMember}

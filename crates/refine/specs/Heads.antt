@@ -18,8 +18,8 @@ use Rattle.model.specs.declared.Loss.the-variants.{DrumKit, RepeatCount, Triple
 use Rattle.model.specs.declared.Time.{Time}
 use Rattle.model.specs.Fits.{EndingFits, PassesFit}
 use Rattle.entries.specs.Fits.{RangeFits, BarFits}
-use Rattle.song.specs.declared.header.Header.{Header}
-use Rattle.song.specs.declared.track.Track.{Track}
+use Rattle.header.specs.declared.Header.{Header}
+use Rattle.track.specs.declared.Track.{Track}
 use Rattle.score.specs.declared.Before.{Before}
 use Rattle.score.specs.declared.Part.{Part}
 use Rattle.score.specs.declared.Voice.{Voice}
@@ -31,8 +31,8 @@ use Rattle.score.specs.Page as Page
 use Rattle.score.specs.Page.{Kind, Heads, Staves, Walk, noVoice, partOf, trackEntry, report, addHeader, addTrack}
 use Rattle.score.specs.Page.{enterBar, noBars, noTracks, noBeats}
 use Rattle.score.specs.Score.{Lists, lists, none}
-use Rattle.page.specs.Lent.{Lent, lent}
-use Rattle.page.specs.Words.{Words, words}
+use Rattle.words.specs.Lent.{Lent, lent}
+use Rattle.words.specs.Words.{Words, words}
 use Rattle.refine.specs.All.{All, all-get, all-more, all-replicate, all-weaker}
 use Rattle.refine.specs.Alike.{FreshVoice, FreshPart, VoiceWithin, PartWithin, HeadsShown, StavesShown}
 use Rattle.refine.specs.Alike.{Room, TablesShown, WalkShown}

@@ -16,12 +16,12 @@ use Rattle.curve.specs.declared.level.Level.{Level}
 use Rattle.curve.specs.declared.level.Level.the-variants.{Absent, Given}
 use Rattle.curve.specs.Key.{noteKey, percussionKey}
 use Rattle.curve.specs.Level.{forte, later, lastGiven, allEmphasised, chordOf, levelOr, chordLevel, levelAfter}
-use Rattle.beat.specs.declared.marks.GraceNote.{GraceNote}
-use Rattle.beat.specs.declared.marks.GraceNote.the-variants.{NoGrace, Before}
-use Rattle.beat.specs.declared.note.NoteRead.{NoteRead}
-use Rattle.beat.specs.Optional.{has}
-use Rattle.beat.specs.Note.{NoteIs, noNote}
-use Rattle.beat.specs.Notes.{stringBit}
+use Rattle.note.specs.declared.marks.GraceNote.{GraceNote}
+use Rattle.note.specs.declared.marks.GraceNote.the-variants.{NoGrace, Before}
+use Rattle.note.specs.declared.NoteRead.{NoteRead}
+use Rattle.note.specs.Optional.{has}
+use Rattle.note.specs.Note.{NoteIs, noNote}
+use Rattle.note.specs.Notes.{stringBit}
 use Rattle.beat.specs.Beat.{BeatIs}
 use Rattle.score.specs.declared.Fretboard.{Fretboard}
 use Rattle.score.specs.declared.LastFret.{LastFret}

@@ -23,8 +23,8 @@ use Rattle.score.specs.Rows.{RowIs}
 use Rattle.score.specs.Page.{rows, members, points, Rowing, spanOf, fingered, marked, pulls, firstKey, hammerAfter}
 use Rattle.score.specs.Page.{under, sameKind, runAfter, lastAfter, turnHammer, turnRun, startTies, keepRow, keepRows}
 use Rattle.score.specs.Score.{Lists, lists}
-use Rattle.page.specs.Lent.{Lent}
-use Rattle.page.specs.Words.{LARGEST, Words, words}
+use Rattle.words.specs.Lent.{Lent}
+use Rattle.words.specs.Words.{LARGEST, Words, words}
 use Rattle.refine.specs.All.{All}
 use Rattle.refine.specs.Alike.{HammerWithin, RunWithin, VoiceWithin}
 use Rattle.refine.specs.Counts.{plus-is}

@@ -17,3 +17,4 @@ pub mod Fit
 pub mod Rooms
 pub mod Passes
 pub mod Returns
+pub mod Counting

@@ -35,7 +35,7 @@ use Rattle.score.specs.declared.Voice.{Voice}
 use Rattle.score.specs.Bars.{followed, noBar}
 use Rattle.score.specs.Page.{Kind, bars, rows, members, texts, parts, Entry, TextIs}
 use Rattle.score.specs.Score.{lists, firstTempo, samePlace, answers, noMember, startFirst, noWords, noPart, voiceOf, withVoice, withRunning}
-use Rattle.page.specs.Words.{stride, wordsOf, words, goOnWords, keyWords, firstWord, tempoWords, answersWord, startWords, partStride, runningPlace, voicePlace, boardWords, voiceWords}
+use Rattle.words.specs.Words.{stride, wordsOf, words, goOnWords, keyWords, firstWord, tempoWords, answersWord, startWords, partStride, runningPlace, voicePlace, boardWords, voiceWords}
 use Rattle.refine.specs.All.{All, all-get}
 use Rattle.refine.specs.Runs.{shows-word, shows-run, shows-turn}
 use Rattle.refine.specs.Parts.{PartFits, VoiceFits, voice-of-fits, voice-length}

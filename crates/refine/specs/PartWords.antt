@@ -23,7 +23,7 @@ use Rattle.score.specs.declared.Remembered.{Remembered}
 use Rattle.score.specs.declared.Voice.{Voice}
 use Rattle.score.specs.Sounding.{nothing}
 use Rattle.score.specs.Score.{voiceOf, withVoice, withRunning}
-use Rattle.page.specs.Words.{runningPlace, voicePlace, fretWord, fretOf, hammerWords, hammerOf, runWords, runOf, voiceWords, boardWords, partWords, boardFrom, voiceFrom}
+use Rattle.words.specs.Words.{runningPlace, voicePlace, fretWord, fretOf, hammerWords, hammerOf, runWords, runOf, voiceWords, boardWords, partWords, boardFrom, voiceFrom}
 use Rattle.refine.specs.All.{all-getD}
 use Rattle.refine.specs.Runs.{sets-after, sets-before, sets-all}
 use Rattle.refine.specs.Parts.{Byte, LastFits, FretFits, HammerFits, VoiceFits, BoardFits, PartFits, voice-length, board-length}

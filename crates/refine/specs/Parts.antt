@@ -3,7 +3,7 @@ use Prim.Native.Nat.{ℕ, zero, suc, _<_}
 use mathlib.Core.Path.{_≡_, refl}
 use native.Mathlib.Omega.{arith}
 use lib.ListN.{length, length-append, length-map}
-use Rattle.song.specs.declared.track.Track.{Track}
+use Rattle.track.specs.declared.Track.{Track}
 use Rattle.score.specs.declared.Fretboard.{Fretboard}
 use Rattle.score.specs.declared.Hammer.{Hammer}
 use Rattle.score.specs.declared.Hammer.the-variants.{NoHammer, Waits}
@@ -17,7 +17,7 @@ use Rattle.score.specs.declared.Voice.{Voice}
 use Rattle.score.specs.Sounding.{nothing}
 use Rattle.score.specs.Page.{partOf, noVoice}
 use Rattle.score.specs.Score.{voiceOf, withVoice, withRunning}
-use Rattle.page.specs.Words.{partStride, hammerWords, runWords, voiceWords, boardWords, partWords}
+use Rattle.words.specs.Words.{partStride, hammerWords, runWords, voiceWords, boardWords, partWords}
 use Rattle.refine.specs.All.{All, all-replicate}
 
 abbrev pub Byte : ℕ → Type 0

@@ -24,8 +24,8 @@ use Rattle.score.specs.Follow.{Agreed, Both, alike, upto-within, upto-all, upto
 use Rattle.score.specs.Page.{keeping}
 use Rattle.score.specs.Reading.{Tables, Score, needed, entries, enough, filled}
 use Rattle.score.specs.Score.{scored}
-use Rattle.page.specs.Lent.{Lent, lent}
-use Rattle.page.specs.Words.{partStride, words}
+use Rattle.words.specs.Lent.{Lent, lent}
+use Rattle.words.specs.Words.{partStride, words}
 use Rattle.refine.specs.All.{all-get}
 use Rattle.refine.specs.Alike.{Room}
 use Rattle.refine.specs.Fit.{shows, words-alike}

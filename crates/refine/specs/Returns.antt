@@ -26,8 +26,8 @@ use Rattle.model.specs.Answers.{readAnswer, refusal, noRoomAnswer, lossesOf}
 use Rattle.model.specs.Kinds.{tempoOf}
 use Rattle.entries.specs.Words.{tempoAt}
 use Rattle.score.specs.Reading.{Tables, Result, Score, needed, enough, songOf, refused, resultOf, reading}
-use Rattle.page.specs.Lent.{Lent}
-use Rattle.page.specs.Words.{partStride}
+use Rattle.words.specs.Lent.{Lent}
+use Rattle.words.specs.Words.{partStride}
 use Rattle.refine.specs.Passes.{onePass, endOf, tablesAfter, Entered, Passed}
 use Rattle.refine.specs.Passes.{stopped-pass, whole-pass, same-score}
 use Rattle.refine.specs.Rooms.{WordScore, neededBy, entriesBy}

@@ -11,15 +11,15 @@ use lib.Dec.{leb}
 use lib.ListN.{length}
 use Rattle.model.specs.declared.Sizes.{Sizes}
 use Rattle.entries.specs.Words.{barStride, rowStride, memberStride, pointStride, textStride}
-use Rattle.song.specs.declared.header.Counts.{Counts}
+use Rattle.header.specs.declared.Counts.{Counts}
 use Rattle.score.specs.declared.Kept.{Kept}
 use Rattle.score.specs.declared.Tally.{Tally}
 use Rattle.score.specs.File.{Whole}
 use Rattle.score.specs.Follow.{Agreed}
 use Rattle.score.specs.Page.{Staves, Walk}
 use Rattle.score.specs.Reading.{Tables, Score, needed, entries, enough}
-use Rattle.page.specs.Lent.{Lent}
-use Rattle.page.specs.Words.{Words}
+use Rattle.words.specs.Lent.{Lent}
+use Rattle.words.specs.Words.{Words}
 use Rattle.refine.specs.Alike.{Room}
 use Rattle.refine.specs.Fit.{shows}
 

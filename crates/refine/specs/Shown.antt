@@ -12,7 +12,7 @@ use Rattle.tables.specs.Laws.{length-over}
 use Rattle.entries.specs.Laws.{bar-length, track-length, row-length, member-length, point-length, text-length}
 use Rattle.score.specs.Page.{Kind, bars, tracks, rows, members, points, texts, parts, Entry, addAll}
 use Rattle.score.specs.Score.{lists}
-use Rattle.page.specs.Words.{stride, wordsOf, textEntry, words}
+use Rattle.words.specs.Words.{stride, wordsOf, textEntry, words}
 use Rattle.refine.specs.All.{All, all-always, all-more}
 use Rattle.refine.specs.Runs.{shows-more}
 use Rattle.refine.specs.Parts.{PartFits, part-length}

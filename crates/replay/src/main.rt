@@ -7,20 +7,15 @@ use entries::rows::ROW_WORDS;
 use entries::texts::TEXT_WORDS;
 use entries::tracks::TRACK_WORDS;
 use format::Place;
-use model::Answer;
-use model::answers;
+use format::Stop;
 use show::form::PAGE;
 use show::input::Input;
+use show::record::Body;
+use show::record::MAGIC;
+use show::record::WORDS;
 
 // Bytes of a list.
 const ROOM: usize = 1048576;
-
-// The list's first four bytes; the words of a record, and its bytes, before its input.
-const MAGIC: u32 = 1279676487;
-
-const WORDS: usize = 37;
-
-const RECORD: usize = 148;
 
 const STDERR: i32 = 2;
 
@@ -28,37 +23,6 @@ const STDERR: i32 = 2;
 struct Replayed {
     differ: u32,
     next: Place,
-}
-
-// The words of a record of this answer.
-fn answer_words(words: &mut [u32; WORDS], number: u32, length: u32, answer: Answer, digest: u64) {
-    let outcome = answer.outcome;
-    let losses = answer.losses;
-    let head = [
-        number,
-        length,
-        answers::outcome_number(outcome),
-        answers::outcome_which(outcome),
-        bin::signed::from_i32(answers::outcome_value(outcome)),
-        tables::low(answer.song.used),
-        answer.counts.bars,
-        answer.counts.tracks,
-        answer.counts.rows,
-        answer.counts.members,
-        answer.counts.points,
-        answer.counts.texts,
-        answer.rooms.bars,
-        answer.rooms.tracks,
-        answer.rooms.rows,
-        answer.rooms.members,
-        answer.rooms.points,
-        answer.rooms.texts,
-    ];
-    let lost = answers::loss_words(losses);
-    let halves = [(digest % 4294967296) as u32, (digest / 4294967296) as u32];
-    tables::store_words(words, 0, &head);
-    tables::store_words(words, 18, &lost);
-    tables::store_words(words, 35, &halves);
 }
 
 // The words of a record of this input, which is read.
@@ -91,7 +55,7 @@ fn read_words(words: &mut [u32; WORDS], page: &mut [u8; PAGE], number: u32, inpu
         &texts,
     );
     let s = show::flush(page, s);
-    answer_words(words, number, tables::low(input.len()), answer, s.digest);
+    show::record::answer_words(words, number, tables::low(input.len()), answer, s.digest);
 }
 
 // Names the words in which the record at a place differs, in a line; gives how many they are.
@@ -127,19 +91,19 @@ fn name_differences(page: &mut [u8; PAGE], list: &[u8], from: Place, words: &[u3
 
 // One record: in how many words it differs.
 fn replay_one(page: &mut [u8; PAGE], list: &[u8], from: Place, number: u32) -> Replayed {
-    let length = bin::u32_at(list, bin::skip_at(list, from, 4)).value;
-    let body = bin::skip_at(list, from, RECORD);
-    let next = bin::skip_at(list, body, length as usize);
-    let Place::At(start) = body else {
-        return Replayed { differ: 0, next };
-    };
-    let Place::At(end) = next else {
-        return Replayed { differ: 0, next };
+    let Body::Within(start, end) = show::record::body_at(list, from) else {
+        return Replayed {
+            differ: 0,
+            next: Place::Stopped(Stop::Ends),
+        };
     };
     let mut words = [0u32; WORDS];
     read_words(&mut words, page, number, bin::text(list, start, end));
     let differ = name_differences(page, list, from, &words);
-    Replayed { differ, next }
+    Replayed {
+        differ,
+        next: Place::At(end),
+    }
 }
 
 // Every record, as far as the list goes: how many differ.

@@ -21,7 +21,7 @@ use Rattle.model.specs.declared.EndingPlace.the-variants.{NoPlace, Begin, Mid, 
 use Rattle.model.specs.declared.Direction.{Direction}
 use Rattle.model.specs.declared.Direction.the-variants as D
 use Rattle.model.specs.Kinds.{fifthsWord, modeWord}
-use Rattle.song.specs.declared.header.Header.{Header}
+use Rattle.header.specs.declared.Header.{Header}
 use Rattle.score.specs.declared.Before.{Before}
 
 -- ---- directions: entries 0, 2, 4, 5, 6, 8, 9, 10, 12 and 17 are kept in that order; any other above 0 is a loss

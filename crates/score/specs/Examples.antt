@@ -11,8 +11,8 @@ use Rattle.format.specs.Fields as FFields
 use Rattle.song.specs.Version as SVersion
 use Rattle.song.specs.Info as SInfo
 use Rattle.song.specs.Setup as SSetup
-use Rattle.song.specs.Header as SHeader
-use Rattle.song.specs.Track as STrack
+use Rattle.header.specs.Header as SHeader
+use Rattle.track.specs.Track as STrack
 use Rattle.bin.specs.Signed as BSigned
 use Rattle.curve.specs.Held as CHeld
 

@@ -29,20 +29,20 @@ use Rattle.curve.specs.Held.{held, byteHalf, wordHalf}
 use Rattle.curve.specs.declared.level.Level.{Level}
 use Rattle.curve.specs.declared.level.Level.the-variants.{Absent, Given}
 use Rattle.curve.specs.Level.{heldLevel, noteLevel}
-use Rattle.song.specs.declared.header.Counts.{Counts}
-use Rattle.song.specs.declared.header.Header.{Header}
-use Rattle.song.specs.declared.track.Track.{Track}
-use Rattle.beat.specs.Optional.{has}
-use Rattle.song.specs.Header as H
-use Rattle.song.specs.Track as T
-use Rattle.beat.specs.declared.marks.GraceNote.{GraceNote}
-use Rattle.beat.specs.declared.marks.GraceNote.the-variants.{NoGrace, Before}
-use Rattle.beat.specs.Points.{BendPoint, bendPoint, bendPoints, bend}
+use Rattle.header.specs.declared.Counts.{Counts}
+use Rattle.header.specs.declared.Header.{Header}
+use Rattle.track.specs.declared.Track.{Track}
+use Rattle.note.specs.Optional.{has}
+use Rattle.header.specs.Header as H
+use Rattle.track.specs.Track as T
+use Rattle.note.specs.declared.marks.GraceNote.{GraceNote}
+use Rattle.note.specs.declared.marks.GraceNote.the-variants.{NoGrace, Before}
+use Rattle.note.specs.Points.{BendPoint, bendPoint, bendPoints, bend}
 use Rattle.beat.specs.Chord.{diagram, oldChord, earlyChord, chord, chordName, beatText}
 use Rattle.beat.specs.Mix.{tempoOf, noMix, mixEnd, mixTempo, mixTable, mix}
-use Rattle.beat.specs.Marks.{noteBend, graceOf, graceNote, grace, noMarks, marksOf, marks, noNoteEffects, noteEffects}
-use Rattle.beat.specs.Note.{NoteIs, readOf, noteEnd, noteBy, note, noNote}
-use Rattle.beat.specs.Notes.{stringBit, stringNote, noNotes, notes}
+use Rattle.note.specs.Marks.{noteBend, graceOf, graceNote, grace, noMarks, marksOf, marks, noNoteEffects, noteEffects}
+use Rattle.note.specs.Note.{NoteIs, readOf, noteEnd, noteBy, note, noNote}
+use Rattle.note.specs.Notes.{stringBit, stringNote, noNotes, notes}
 use Rattle.beat.specs.Head.{head}
 use Rattle.beat.specs.Beat.{BeatIs, beatNotes, beatBy, beat}
 use Rattle.score.specs.Page.{bendRoom, bendRooms}

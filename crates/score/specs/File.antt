@@ -10,14 +10,14 @@ use Rattle.format.specs.Prog.{Prog, ret, bind, whenLe, turns}
 use Rattle.format.specs.Fields.{skip, count}
 use Rattle.song.specs.declared.info.Info.{Info}
 use Rattle.song.specs.declared.info.Lyrics.{Lyrics}
-use Rattle.song.specs.declared.header.Counts.{Counts}
-use Rattle.song.specs.declared.header.Header.{Header}
-use Rattle.song.specs.declared.track.Track.{Track}
+use Rattle.header.specs.declared.Counts.{Counts}
+use Rattle.header.specs.declared.Header.{Header}
+use Rattle.track.specs.declared.Track.{Track}
 use Rattle.song.specs.Version.{version}
 use Rattle.song.specs.Info.{info, tripletFeel, lyrics}
 use Rattle.song.specs.Setup.{setup, channelTable, directions}
-use Rattle.song.specs.Header.{counts, commonTime, header}
-use Rattle.song.specs.Track.{track}
+use Rattle.header.specs.Header.{counts, commonTime, header}
+use Rattle.track.specs.Track.{track}
 use Rattle.beat.specs.Beat.{BeatIs, beat}
 
 -- what stands before the bar headers

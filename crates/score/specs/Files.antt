@@ -19,17 +19,17 @@ use Rattle.curve.specs.Bend as CurveBend
 use Rattle.song.specs.Version as SongVersion
 use Rattle.song.specs.Info as SongInfo
 use Rattle.song.specs.Setup as SongSetup
-use Rattle.song.specs.Header as SongHeader
-use Rattle.song.specs.Track as SongTrack
-use Rattle.beat.specs.Optional as BeatOptional
-use Rattle.beat.specs.Points as BeatPoints
+use Rattle.header.specs.Header as HeaderHeader
+use Rattle.track.specs.Track as TrackTrack
+use Rattle.note.specs.Optional as NoteOptional
+use Rattle.note.specs.Points as NotePoints
+use Rattle.note.specs.Marks as NoteMarks
+use Rattle.note.specs.Note as NoteNote
+use Rattle.note.specs.Notes as NoteNotes
 use Rattle.beat.specs.Head as BeatHead
 use Rattle.beat.specs.Chord as BeatChord
 use Rattle.beat.specs.Effects as BeatEffects
 use Rattle.beat.specs.Mix as BeatMix
-use Rattle.beat.specs.Marks as BeatMarks
-use Rattle.beat.specs.Note as BeatNote
-use Rattle.beat.specs.Notes as BeatNotes
 use Rattle.beat.specs.Tail as BeatTail
 use Rattle.beat.specs.Beat as BeatBeat
 use Rattle.score.specs.File as ScoreFile
@@ -468,5 +468,5 @@ pub record AsTheOracle : Type 0 where
       0 ∷ 0 ∷ []
 
 pub as-the-oracle : AsTheOracle
-unfolding FormatText.blank FormatText.cutLen FormatText.leadLen FormatText.keepNext FormatText.keepLen FormatText.cut FormatText.trim FormatText.rangeOf FormatText.textOf FormatText.noText FormatProg.run FormatProg.bind FormatProg.turns FormatProg.whenLe FormatProg.whenEq FormatProg.whenBits FormatFields.u8 FormatFields.number FormatFields.skip FormatFields.words FormatFields.counted FormatFields.count FormatFields.stringOf FormatFields.stringPast FormatFields.fixedString FormatFields.fixedStringPast FormatFields.intByteStringUnused FormatFields.intByteStringUnusedPast FormatFields.intString FormatFields.intStringPast FormatFields.lessOne FormatFields.intByteString FormatFields.intByteStringPast BinSigned.signed BinSigned.unsigned BinSigned.lessOneWrapped CurveHeld.held CurveSlide.slideOf CurveLevel.noteLevel CurveLevel.chordOf CurveLevel.chordWith CurveLevel.chordLevel CurveLevel.levelAfter CurveKey.percussionKey CurveBend.heightOf CurveBend.pointOf CurveBend.finish CurveBend.larger CurveBend.curveHeight SongVersion.starts SongVersion.isFamily SongVersion.isDigit SongVersion.digitsLen SongVersion.digitsFrom SongVersion.short SongVersion.unplussed SongVersion.numbered SongVersion.versionOf SongVersion.accepted SongVersion.version SongInfo.names SongInfo.music SongInfo.composerOf SongInfo.credits SongInfo.notices SongInfo.noInfo SongInfo.info SongInfo.tripletFeel SongInfo.lyricTrack SongInfo.fromZero SongInfo.lyricLine SongInfo.noLine SongInfo.noLyrics SongInfo.fiveLines SongInfo.lyrics SongSetup.equalizer SongSetup.templates SongSetup.page SongSetup.tempoOf SongSetup.hideTempo SongSetup.octave SongSetup.tempo SongSetup.setup SongSetup.programOf SongSetup.channel SongSetup.noPort SongSetup.nextChannel SongSetup.port SongSetup.noPorts SongSetup.nextPort SongSetup.channelTable SongSetup.barNumber SongSetup.noDirections SongSetup.nextDirection SongSetup.nineteen SongSetup.directions SongHeader.notEmpty SongHeader.noCounts SongHeader.counts SongHeader.has SongHeader.commonTime SongHeader.powerOfTwo SongHeader.timeOf SongHeader.time SongHeader.repeatCount SongHeader.endingByte SongHeader.marker SongHeader.fifthsOf SongHeader.modeOf SongHeader.key SongHeader.marks SongHeader.beams SongHeader.tail SongHeader.endingOf SongHeader.passesOf SongHeader.endingNumber SongHeader.noHeader SongHeader.headerOf SongHeader.header SongTrack.noTunings SongTrack.nextTuning SongTrack.tunings SongTrack.noStrings SongTrack.strings SongTrack.numbered SongTrack.sound SongTrack.effect SongTrack.staff SongTrack.tablatureOf SongTrack.low SongTrack.clefOf SongTrack.programOf SongTrack.noTrack SongTrack.trackOf SongTrack.track BeatOptional.has BeatOptional.notNegative BeatOptional.optional BeatPoints.bendPoint BeatPoints.bendPoints BeatPoints.bend BeatPoints.whammy BeatPoints.word BeatPoints.pointsAt BeatHead.tupletOf BeatHead.status BeatHead.tuplet BeatHead.headOf BeatHead.noHead BeatHead.head BeatChord.diagram BeatChord.oldFrets BeatChord.oldChord BeatChord.earlyChord BeatChord.chord BeatChord.chordName BeatChord.beatText BeatEffects.moreFlags BeatEffects.tappingOf BeatEffects.noTapping BeatEffects.tappingEnd BeatEffects.tapping BeatEffects.tremoloBar BeatEffects.brushOf BeatEffects.brush BeatEffects.strokeOf BeatEffects.stroke BeatEffects.noEffects BeatEffects.effectsOf BeatEffects.effectsBy BeatEffects.beatEffects BeatMix.sign BeatMix.threeSigns BeatMix.mixSound BeatMix.tempoName BeatMix.duration BeatMix.threeDurations BeatMix.tempoEnd BeatMix.mixFlags BeatMix.wah BeatMix.mixStrings BeatMix.tempoOf BeatMix.noMix BeatMix.mixEnd BeatMix.anyGiven BeatMix.mixTempo BeatMix.mixTable BeatMix.mix BeatMarks.noteBend BeatMarks.graceOf BeatMarks.graceFlags BeatMarks.graceNote BeatMarks.grace BeatMarks.tremolo BeatMarks.slideFlag BeatMarks.slide BeatMarks.harmonicEnd BeatMarks.noHarmonic BeatMarks.harmonic BeatMarks.trill BeatMarks.noMarks BeatMarks.marksOf BeatMarks.marks BeatMarks.noNoteEffects BeatMarks.noteEffects BeatNote.frettedByte BeatNote.ownDuration BeatNote.dynamic BeatNote.leftHand BeatNote.noHands BeatNote.hands BeatNote.percent BeatNote.accidental BeatNote.readOf BeatNote.noteEnd BeatNote.noteBy BeatNote.note BeatNote.noNote BeatNotes.stringBit BeatNotes.stringNote BeatNotes.noNotes BeatNotes.notes BeatTail.ottavaOf BeatTail.tailByte BeatTail.tail BeatBeat.beatNotes BeatBeat.beatBy BeatBeat.beat BeatBeat.noBeat ScoreFile.song ScoreFile.voices ScoreFile.oneHeader ScoreFile.headers ScoreFile.oneTrack ScoreFile.tracks ScoreFile.oneBeat ScoreFile.voice ScoreFile.barTrack ScoreFile.bar ScoreFile.bars ScoreFile.score ScoreFile.file ScoreSounding.sounding ScoreMembers.inOrder ScoreMembers.memberOf ScoreMembers.graceMember ScoreRows.noteMarks ScoreRows.beatMarks ScoreRows.marksOf ScoreRows.playedWith ScoreRows.restRow ScoreRows.chordRow ScoreRows.graceRow ScoreRows.rowsOf ScoreBars.several ScoreBars.directionAt ScoreBars.keyChanged ScoreBars.timeChanged ScoreBars.barOf ScoreBars.noBar ScoreLosses.headerLosses ScoreLosses.trackLosses ScoreLosses.readingLosses ScoreLosses.buildingLosses ScorePage.rowEntry ScorePage.trackEntry ScorePage.addHeader ScorePage.addTrack ScorePage.keepRow ScorePage.enterBar ScorePage.addBeat ScorePage.noBars ScorePage.noTracks ScorePage.noBeats ScoreScore.scored Count.ones Count.onesIn Count.trailingZeros
+unfolding FormatText.blank FormatText.cutLen FormatText.leadLen FormatText.keepNext FormatText.keepLen FormatText.cut FormatText.trim FormatText.rangeOf FormatText.textOf FormatText.noText FormatProg.run FormatProg.bind FormatProg.turns FormatProg.whenLe FormatProg.whenEq FormatProg.whenBits FormatFields.u8 FormatFields.number FormatFields.skip FormatFields.words FormatFields.counted FormatFields.count FormatFields.stringOf FormatFields.stringPast FormatFields.fixedString FormatFields.fixedStringPast FormatFields.intByteStringUnused FormatFields.intByteStringUnusedPast FormatFields.intString FormatFields.intStringPast FormatFields.lessOne FormatFields.intByteString FormatFields.intByteStringPast BinSigned.signed BinSigned.unsigned BinSigned.lessOneWrapped CurveHeld.held CurveSlide.slideOf CurveLevel.noteLevel CurveLevel.chordOf CurveLevel.chordWith CurveLevel.chordLevel CurveLevel.levelAfter CurveKey.percussionKey CurveBend.heightOf CurveBend.pointOf CurveBend.finish CurveBend.larger CurveBend.curveHeight SongVersion.starts SongVersion.isFamily SongVersion.isDigit SongVersion.digitsLen SongVersion.digitsFrom SongVersion.short SongVersion.unplussed SongVersion.numbered SongVersion.versionOf SongVersion.accepted SongVersion.version SongInfo.names SongInfo.music SongInfo.composerOf SongInfo.credits SongInfo.notices SongInfo.noInfo SongInfo.info SongInfo.tripletFeel SongInfo.lyricTrack SongInfo.fromZero SongInfo.lyricLine SongInfo.noLine SongInfo.noLyrics SongInfo.fiveLines SongInfo.lyrics SongSetup.equalizer SongSetup.templates SongSetup.page SongSetup.tempoOf SongSetup.hideTempo SongSetup.octave SongSetup.tempo SongSetup.setup SongSetup.programOf SongSetup.channel SongSetup.noPort SongSetup.nextChannel SongSetup.port SongSetup.noPorts SongSetup.nextPort SongSetup.channelTable SongSetup.barNumber SongSetup.noDirections SongSetup.nextDirection SongSetup.nineteen SongSetup.directions HeaderHeader.notEmpty HeaderHeader.noCounts HeaderHeader.counts HeaderHeader.has HeaderHeader.commonTime HeaderHeader.powerOfTwo HeaderHeader.timeOf HeaderHeader.time HeaderHeader.repeatCount HeaderHeader.endingByte HeaderHeader.marker HeaderHeader.fifthsOf HeaderHeader.modeOf HeaderHeader.key HeaderHeader.marks HeaderHeader.beams HeaderHeader.tail HeaderHeader.endingOf HeaderHeader.passesOf HeaderHeader.endingNumber HeaderHeader.noHeader HeaderHeader.headerOf HeaderHeader.header TrackTrack.noTunings TrackTrack.nextTuning TrackTrack.tunings TrackTrack.noStrings TrackTrack.strings TrackTrack.numbered TrackTrack.sound TrackTrack.effect TrackTrack.staff TrackTrack.tablatureOf TrackTrack.low TrackTrack.clefOf TrackTrack.programOf TrackTrack.noTrack TrackTrack.trackOf TrackTrack.track NoteOptional.has NoteOptional.notNegative NoteOptional.optional NoteOptional.moreFlags NotePoints.bendPoint NotePoints.bendPoints NotePoints.bend NotePoints.whammy NotePoints.word NotePoints.pointsAt NoteMarks.noteBend NoteMarks.graceOf NoteMarks.graceFlags NoteMarks.graceNote NoteMarks.grace NoteMarks.tremolo NoteMarks.slideFlag NoteMarks.slide NoteMarks.harmonicEnd NoteMarks.noHarmonic NoteMarks.harmonic NoteMarks.trill NoteMarks.noMarks NoteMarks.marksOf NoteMarks.marks NoteMarks.noNoteEffects NoteMarks.noteEffects NoteNote.frettedByte NoteNote.ownDuration NoteNote.dynamic NoteNote.leftHand NoteNote.noHands NoteNote.hands NoteNote.percent NoteNote.accidental NoteNote.readOf NoteNote.noteEnd NoteNote.noteBy NoteNote.note NoteNote.noNote NoteNotes.stringBit NoteNotes.stringNote NoteNotes.noNotes NoteNotes.notes BeatHead.tupletOf BeatHead.status BeatHead.tuplet BeatHead.headOf BeatHead.noHead BeatHead.head BeatChord.diagram BeatChord.oldFrets BeatChord.oldChord BeatChord.earlyChord BeatChord.chord BeatChord.chordName BeatChord.beatText BeatEffects.tappingOf BeatEffects.noTapping BeatEffects.tappingEnd BeatEffects.tapping BeatEffects.tremoloBar BeatEffects.brushOf BeatEffects.brush BeatEffects.strokeOf BeatEffects.stroke BeatEffects.noEffects BeatEffects.effectsOf BeatEffects.effectsBy BeatEffects.beatEffects BeatMix.sign BeatMix.threeSigns BeatMix.mixSound BeatMix.tempoName BeatMix.duration BeatMix.threeDurations BeatMix.tempoEnd BeatMix.mixFlags BeatMix.wah BeatMix.mixStrings BeatMix.tempoOf BeatMix.noMix BeatMix.mixEnd BeatMix.anyGiven BeatMix.mixTempo BeatMix.mixTable BeatMix.mix BeatTail.ottavaOf BeatTail.tailByte BeatTail.tail BeatBeat.beatNotes BeatBeat.beatBy BeatBeat.beat BeatBeat.noBeat ScoreFile.song ScoreFile.voices ScoreFile.oneHeader ScoreFile.headers ScoreFile.oneTrack ScoreFile.tracks ScoreFile.oneBeat ScoreFile.voice ScoreFile.barTrack ScoreFile.bar ScoreFile.bars ScoreFile.score ScoreFile.file ScoreSounding.sounding ScoreMembers.inOrder ScoreMembers.memberOf ScoreMembers.graceMember ScoreRows.noteMarks ScoreRows.beatMarks ScoreRows.marksOf ScoreRows.playedWith ScoreRows.restRow ScoreRows.chordRow ScoreRows.graceRow ScoreRows.rowsOf ScoreBars.several ScoreBars.directionAt ScoreBars.keyChanged ScoreBars.timeChanged ScoreBars.barOf ScoreBars.noBar ScoreLosses.headerLosses ScoreLosses.trackLosses ScoreLosses.readingLosses ScoreLosses.buildingLosses ScorePage.rowEntry ScorePage.trackEntry ScorePage.addHeader ScorePage.addTrack ScorePage.keepRow ScorePage.enterBar ScorePage.addBeat ScorePage.noBars ScorePage.noTracks ScorePage.noBeats ScoreScore.scored Count.ones Count.onesIn Count.trailingZeros
 as-the-oracle = record { of221 = refl; of218 = refl; of196 = refl; of223 = refl; of64 = refl; of217 = refl }

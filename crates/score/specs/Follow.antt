@@ -17,8 +17,8 @@ use Rattle.format.proofs.Run.{andThen, run-bind, run-within}
 use Rattle.format.proofs.Outcome.{outcome-short, outcome-long}
 use Rattle.format.proofs.Yields.{yield-ret, yield-after, yield-bind, yield-le}
 use Rattle.model.specs.declared.Time.{Time}
-use Rattle.song.specs.declared.header.Header.{Header}
-use Rattle.song.specs.declared.track.Track.{Track}
+use Rattle.header.specs.declared.Header.{Header}
+use Rattle.track.specs.declared.Track.{Track}
 use Rattle.beat.specs.Beat.{BeatIs}
 use Rattle.score.specs.File.{Song, song, voices, Timed, Adding, Whole, oneHeader, headers, oneTrack, tracks}
 use Rattle.score.specs.File.{oneBeat, voice, barTrack, bar, bars, score, file}

@@ -7,16 +7,16 @@ use lib.Dec.{eqb}
 use Rattle.model.specs.declared.Loss.{Loss}
 use Rattle.model.specs.declared.Loss.the-variants as L
 use Rattle.model.specs.Answers.{lossNumber}
-use Rattle.song.specs.declared.header.Header.{Header}
-use Rattle.song.specs.declared.track.Track.{Track}
-use Rattle.beat.specs.Optional.{has}
-use Rattle.beat.specs.declared.note.LeftHand.{LeftHand}
-use Rattle.beat.specs.declared.note.LeftHand.the-variants as H
+use Rattle.header.specs.declared.Header.{Header}
+use Rattle.track.specs.declared.Track.{Track}
+use Rattle.note.specs.Optional.{has}
+use Rattle.note.specs.declared.LeftHand.{LeftHand}
+use Rattle.note.specs.declared.LeftHand.the-variants as H
 use Rattle.beat.specs.declared.effects.BeatEffects.{BeatEffects}
 use Rattle.beat.specs.declared.mix.Mix.{Mix}
-use Rattle.beat.specs.declared.note.NoteRead.{NoteRead}
-use Rattle.beat.specs.Note.{NoteIs}
-use Rattle.beat.specs.Notes.{stringBit}
+use Rattle.note.specs.declared.NoteRead.{NoteRead}
+use Rattle.note.specs.Note.{NoteIs}
+use Rattle.note.specs.Notes.{stringBit}
 use Rattle.beat.specs.Beat.{BeatIs}
 use Rattle.format.specs.Text.{pick}
 use Rattle.score.specs.Members.{Keyed, Graced, graces}

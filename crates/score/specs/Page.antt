@@ -41,12 +41,12 @@ use Rattle.curve.specs.declared.level.Level.{Level}
 use Rattle.curve.specs.declared.level.Level.the-variants.{Absent, Given}
 use Rattle.curve.specs.declared.level.LevelAfter.{LevelAfter}
 use Rattle.curve.specs.Level.{forte, chordOf, levelAfter}
-use Rattle.song.specs.declared.header.Header.{Header}
-use Rattle.song.specs.declared.track.Track as STrack
-use Rattle.beat.specs.Optional.{has}
-use Rattle.beat.specs.Points.{BendPoint}
-use Rattle.beat.specs.Note.{NoteIs}
-use Rattle.beat.specs.Notes.{stringBit}
+use Rattle.header.specs.declared.Header.{Header}
+use Rattle.track.specs.declared.Track as STrack
+use Rattle.note.specs.Optional.{has}
+use Rattle.note.specs.Points.{BendPoint}
+use Rattle.note.specs.Note.{NoteIs}
+use Rattle.note.specs.Notes.{stringBit}
 use Rattle.beat.specs.Beat.{BeatIs}
 use Rattle.score.specs.declared.Before.{Before}
 use Rattle.score.specs.declared.Fretboard.{Fretboard}

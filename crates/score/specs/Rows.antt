@@ -33,15 +33,15 @@ use Rattle.curve.specs.declared.level.Level.{Level}
 use Rattle.curve.specs.declared.level.Level.the-variants.{Absent}
 use Rattle.curve.specs.declared.level.NoteLevel.{NoteLevel}
 use Rattle.curve.specs.declared.slide.SlideEffect.{SlideEffect}
-use Rattle.beat.specs.Optional.{has}
+use Rattle.note.specs.Optional.{has}
 use Rattle.beat.specs.declared.effects.BeatEffects.{BeatEffects}
-use Rattle.beat.specs.declared.marks.NoteEffects.{NoteEffects}
-use Rattle.beat.specs.declared.note.NoteRead.{NoteRead}
+use Rattle.note.specs.declared.marks.NoteEffects.{NoteEffects}
+use Rattle.note.specs.declared.NoteRead.{NoteRead}
 use Rattle.beat.specs.declared.effects.PickStroke.{PickStroke}
 use Rattle.beat.specs.declared.effects.PickStroke.the-variants as P
-use Rattle.beat.specs.declared.marks.Tremolo.{Tremolo}
-use Rattle.beat.specs.declared.marks.Tremolo.the-variants.{NoTremolo, Strokes}
-use Rattle.beat.specs.Points.{BendPoint}
+use Rattle.note.specs.declared.marks.Tremolo.{Tremolo}
+use Rattle.note.specs.declared.marks.Tremolo.the-variants.{NoTremolo, Strokes}
+use Rattle.note.specs.Points.{BendPoint}
 use Rattle.beat.specs.Beat.{BeatIs}
 use Rattle.score.specs.declared.Fretboard.{Fretboard}
 use Rattle.score.specs.Members.{Keyed, Graced, graces, memberOf, graceMember}

@@ -17,7 +17,7 @@ use Rattle.model.specs.declared.Tempo.{Tempo}
 use Rattle.model.specs.declared.Tempo.the-variants.{NoTempo, Bpm}
 use Rattle.entries.specs.Changed.{withPlace, withTempo, withTechnique, withOttavaEnd, withTieStart}
 use Rattle.curve.specs.Level.{forte}
-use Rattle.song.specs.Track.{noTrack}
+use Rattle.track.specs.Track.{noTrack}
 use Rattle.score.specs.declared.Part.{Part}
 use Rattle.score.specs.declared.Voice.{Voice}
 use Rattle.score.specs.File.{Whole, Adding, file}

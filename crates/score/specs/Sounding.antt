@@ -5,10 +5,10 @@ use mathlib.Core.Bool.{Bool, _&&_}
 use lib.ListN.{getD, replicate, set}
 use lib.Dec.{ltb}
 use Rattle.format.specs.Text.{pick}
-use Rattle.beat.specs.declared.note.NoteRead.{NoteRead}
-use Rattle.beat.specs.Optional.{has}
-use Rattle.beat.specs.Note.{NoteIs, noNote}
-use Rattle.beat.specs.Notes.{stringBit}
+use Rattle.note.specs.declared.NoteRead.{NoteRead}
+use Rattle.note.specs.Optional.{has}
+use Rattle.note.specs.Note.{NoteIs, noNote}
+use Rattle.note.specs.Notes.{stringBit}
 use Rattle.beat.specs.Beat.{BeatIs}
 use Rattle.score.specs.declared.LastFret.{LastFret}
 use Rattle.score.specs.declared.LastFret.the-variants.{NoFret, Fret}

@@ -3,7 +3,7 @@
 use model::Key;
 use model::Ottava;
 use model::Span;
-use song::track::Strings;
+use track::Strings;
 
 // ---- what is remembered of a track
 

@@ -13,6 +13,7 @@ use model::kinds;
 
 pub mod form;
 pub mod input;
+pub mod record;
 
 // How much text a page holds, and what became of the text before it: written to standard output, or digested by FNV-1a.
 pub struct Sink {

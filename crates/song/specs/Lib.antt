@@ -1,5 +1,3 @@
 pub mod Version
 pub mod Info
 pub mod Setup
-pub mod Header
-pub mod Track

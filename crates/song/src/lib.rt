@@ -1,23 +1,22 @@
-// The song's part of a file: version, texts, lyrics, page setup, channels, directions, bar headers and tracks.
+// The song's part of a file, before its bar headers: version, texts, lyrics, page setup, channels and directions.
 // Every public function is total: from a stopped place it reads nothing and hands the stop on, with nothing beside it.
 ghost use mathlib.Core.Path.{_≡_};
 ghost use Rattle.song.specs.Info.{fromZero};
 
-pub mod header;
 pub mod info;
 pub mod setup;
-pub mod track;
 pub mod version;
 
 use format::Range;
 
-const NO_RANGE: Range = Range { start: 0, end: 0 };
+// The range of an empty text.
+pub const NO_RANGE: Range = Range { start: 0, end: 0 };
 
 // the first 32-bit number that is negative
 const NEGATIVE: u32 = 2147483648;
 
 // A number less one, with wrapping, and not below 0.
-fn from_zero(v: u32) -> u32
+pub fn from_zero(v: u32) -> u32
     ensures { λ r. ⌜ r ≡ fromZero v ⌝ }
 {
     let n = bin::signed::less_one(v);

@@ -20,10 +20,10 @@ use Rattle.model.specs.declared.Time.{Time}
 use Rattle.model.specs.declared.Tuplet.the-variants.{NoTuplet, Ratio}
 use Rattle.model.specs.Fits.{ProgramFits, TupletFits}
 use Rattle.entries.specs.Fits.{BarFits, TrackFits}
-use Rattle.song.specs.declared.header.Header.{Header}
-use Rattle.song.specs.declared.track.Track.{Track}
+use Rattle.header.specs.declared.Header.{Header}
+use Rattle.track.specs.declared.Track.{Track}
 use Rattle.song.specs.Setup.{programOf, channel, noPort, nextChannel, port, noPorts, nextPort, channelTable}
-use Rattle.song.specs.Track as T
+use Rattle.track.specs.Track as T
 use Rattle.beat.specs.Head.{tupletOf, headOf, head}
 use Rattle.beat.specs.Beat.{beatNotes, beatBy, beat}
 use Rattle.score.specs.Facts.{TimeFits, HeaderFacts, TrackFacts, common-time, header-facts, track-facts, beat-facts}

@@ -19,7 +19,7 @@ use Rattle.curve.specs.declared.bend.Height.the-variants.{Absent, Given}
 use Rattle.curve.specs.Held.{held, wordHalf}
 use Rattle.curve.specs.Bend.{point, place, heldZ, heightOf, pointOf, insert, inserts, along, latter, withEnds, finish}
 use Rattle.curve.specs.Bend.{size, larger, curveHeight}
-use Rattle.beat.specs.Points.{BendPoint}
+use Rattle.note.specs.Points.{BendPoint}
 use Rattle.score.specs.Page.{heightAt}
 use Rattle.score.specs.Rows.{curveOf}
 use Rattle.refine.specs.All.{All}

@@ -17,8 +17,8 @@ use Rattle.model.specs.Marks.{addOnce}
 use Rattle.model.specs.MarksLaws.{Distinct, distinct-nil, distinct-few, distinct-add}
 use Rattle.entries.specs.Fits.{RangeFits, RowFits, MemberFits, PointFits}
 use Rattle.beat.specs.declared.effects.BeatEffects.{BeatEffects}
-use Rattle.beat.specs.declared.marks.GraceNote.{GraceNote}
-use Rattle.beat.specs.declared.marks.GraceNote.the-variants.{NoGrace, Before}
+use Rattle.note.specs.declared.marks.GraceNote.{GraceNote}
+use Rattle.note.specs.declared.marks.GraceNote.the-variants.{NoGrace, Before}
 use Rattle.beat.specs.Beat.{BeatIs}
 use Rattle.score.specs.declared.Fretboard.{Fretboard}
 use Rattle.score.specs.declared.Hammer.{Hammer}

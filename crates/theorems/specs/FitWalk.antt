@@ -9,7 +9,7 @@ use Rattle.format.specs.Outcome.{LIMIT}
 use Rattle.format.specs.Text.{pick}
 use Rattle.model.specs.Fits.{TupletFits}
 use Rattle.entries.specs.Fits.{RangeFits, BarFits, RowFits, MemberFits, PointFits}
-use Rattle.song.specs.Track.{noTunings, noStrings, noTrack}
+use Rattle.track.specs.Track.{noTunings, noStrings, noTrack}
 use Rattle.beat.specs.Beat.{BeatIs}
 use Rattle.score.specs.declared.Fretboard.{Fretboard}
 use Rattle.score.specs.declared.Part.{Part}

@@ -11,7 +11,7 @@ use Rattle.format.specs.Prog.{Prog, ret, refuse, whenLe, run, ok}
 use Rattle.format.specs.Fields.{words}
 use Rattle.model.specs.declared.Cents.{Cents}
 use Rattle.song.specs.Version.{PREFIX, starts, isDigit, digitsLen, digitsFrom, short, unplussed, numbered, versionOf, accepted}
-use Rattle.song.specs.Header.{commonTime, powerOfTwo, timeOf, endingOf, passesOf}
+use Rattle.header.specs.Header.{commonTime, powerOfTwo, timeOf, endingOf, passesOf}
 use Rattle.curve.specs.Held.{held}
 use Rattle.curve.specs.Bend.{point, place, pointOf, finish, larger, curveHeight}
 use Rattle.curve.specs.declared.bend.Height.the-variants.{Given}

@@ -2,14 +2,14 @@
 use borrow.Author.Needs.{needs}
 use Rattle.format.proofs.Text.{none-in}
 use Rattle.format.proofs.Rules.{then, returned, handing-none}
-use Rattle.beat.proofs.Any.{any}
-use Rattle.beat.specs.Points.{pointsAt}
+use Rattle.note.proofs.Any.{any}
+use Rattle.note.specs.Points.{pointsAt}
+use Rattle.note.specs.Marks.{noMarks}
+use Rattle.note.specs.Note.{noNote}
+use Rattle.note.specs.Notes.{noNotes}
 use Rattle.beat.specs.Head.{noHead}
 use Rattle.beat.specs.Effects.{noEffects}
 use Rattle.beat.specs.Mix.{noMix}
-use Rattle.beat.specs.Marks.{noMarks}
-use Rattle.beat.specs.Note.{noNote}
-use Rattle.beat.specs.Notes.{noNotes}
 use Rattle.beat.specs.Beat.{beat, noBeat}
 use Rattle.beat.proofs.read_beat.Statement.{statement}
 use Rattle.beat.proofs.read_beat.Tie as tie

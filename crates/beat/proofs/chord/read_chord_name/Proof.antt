@@ -2,7 +2,7 @@
 use borrow.Author.Needs.{needs}
 use Rattle.format.proofs.Rules.{reading}
 use Rattle.format.proofs.Text.{none-in}
-use Rattle.beat.proofs.Any.{any}
+use Rattle.note.proofs.Any.{any}
 use Rattle.beat.specs.Chord.{chordName}
 use Rattle.beat.proofs.chord.read_chord_name.Statement.{statement}
 use Rattle.beat.proofs.chord.read_chord_name.Tie as tie

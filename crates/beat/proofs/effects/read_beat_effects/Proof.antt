@@ -1,8 +1,9 @@
 -- One field after another. Assumes nothing.
 use borrow.Author.Needs.{needs}
 use Rattle.format.proofs.Rules.{reading}
-use Rattle.beat.proofs.Any.{any}
-use Rattle.beat.specs.Effects.{beatEffects, noEffects, moreFlags}
+use Rattle.note.proofs.Any.{any}
+use Rattle.note.specs.Optional.{moreFlags}
+use Rattle.beat.specs.Effects.{beatEffects, noEffects}
 use Rattle.beat.proofs.effects.read_beat_effects.Statement.{statement}
 use Rattle.beat.proofs.effects.read_beat_effects.Tie as tie
 

@@ -1,7 +1,7 @@
 -- One field after another. Assumes nothing.
 use borrow.Author.Needs.{needs}
 use Rattle.format.proofs.Rules.{reading}
-use Rattle.beat.proofs.Any.{any}
+use Rattle.note.proofs.Any.{any}
 use Rattle.beat.specs.Mix.{mix, noMix}
 use Rattle.beat.proofs.mix.read_mix_table.Statement.{statement}
 use Rattle.beat.proofs.mix.read_mix_table.Tie as tie

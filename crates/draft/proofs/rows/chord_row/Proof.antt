@@ -13,15 +13,15 @@ chord-row-spec =
     (λ c κs. search needs)
     (λ c κs. search needs)
     (λ c κs. search needs)
-    (λ c κs. search needs)
-    (λ c κs. search needs)
     (λ c.
-    let o = c .before .before in
+    let o = c .before .before .before .before in
+    let v = o .before .before .before .before .voicing-of .ensures in
     rw (
-      c .head-of .ensures,
-      c .before .marks-of .ensures,
-      o .dynamic-of .ensures,
-      o .before .members-of .ensures,
-      o .before .before .value-of .ensures,
-      ← o .before .before .before .before .before .played-of .ensures,
+      c .members-of .ensures,
+      c .before .value-of .ensures,
+      o .level-after .ensures,
+      v .1 .1 .1,
+      v .1 .1 .0,
+      v .1 .0,
+      ← v .0,
     )))

@@ -12,4 +12,4 @@ graced-by-spec =
     (λ c κs. search needs)
     (λ c κs. search needs)
     (λ c κs. search needs)
-    (λ c. rw (c .grace-head .ensures, c .before .grace-technique .ensures, c .before .before .grace-text .ensures)))
+    (λ c. rw (c .head-with .ensures, c .before .grace-technique .ensures, c .before .before .grace-text .ensures)))

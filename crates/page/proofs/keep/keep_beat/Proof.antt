@@ -3,8 +3,8 @@ use native.Mathlib.Omega.{arith}
 use borrow.Author.Tests.{not-true, not-false}
 use Rattle.beat.specs.Beat.{beatIn}
 use Rattle.draft.specs.Meant.{chordIn}
-use Rattle.page.specs.Words.{words}
-use Rattle.page.specs.Meant.{rowingOf}
+use Rattle.words.specs.Words.{words}
+use Rattle.words.specs.Meant.{rowingOf}
 use Rattle.page.proofs.Rowing.{not-kept, beat-kept}
 use borrow.Author.Needs.{needs}
 use Rattle.page.proofs.keep.keep_beat.Statement.{statement}

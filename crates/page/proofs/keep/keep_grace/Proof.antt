@@ -3,8 +3,8 @@ use mathlib.Core.Path.{sym, _∙_}
 use borrow.Author.Tests.{not-true, not-false}
 use Rattle.score.specs.Members.{graces}
 use Rattle.draft.specs.Meant.{chordIn}
-use Rattle.page.specs.Words.{words}
-use Rattle.page.specs.Meant.{rowingOf}
+use Rattle.words.specs.Words.{words}
+use Rattle.words.specs.Meant.{rowingOf}
 use Rattle.page.proofs.Rowing.{no-grace, a-grace}
 use borrow.Author.Needs.{needs}
 use Rattle.page.proofs.keep.keep_grace.Statement.{statement}

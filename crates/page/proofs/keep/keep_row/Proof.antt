@@ -14,18 +14,15 @@ keep-row-spec =
     (λ c κs. search needs)
     (λ c κs. search needs)
     (λ c κs. search needs)
-    (λ c κs. search needs)
     (λ c. search needs)
     (λ c. search needs)
     (λ c. search needs)
     (λ c.
-    let points = c .before .before .before .before in
-    let members = points .before .before .before .before in
+    let members = c .before .before .before .before in
     let ties = members .before .before .before .before in
     let row = ties .before .before .before .before in
-    let curve = row .before .before in
-    let a = curve .before .before .before .before .before .before .before .before .args in
-    row-kept (a .s .now) (a .draft) (a .kept) (a .voice) (curve .curve-of .result)
-    (a .rows .now) (a .members .now) (a .points .now)
-    (curve .curve-of .ensures) (row .add-row .ensures) (ties .start-ties .ensures) (members .add-members .ensures)
-    (points .add-points .ensures) (c .before .kept-after .ensures) (c .voice-after .ensures)))
+    let curve = row .before .before .before .before in
+    let a = curve .before .before .before .before .before .before .before .before .before .args in
+    row-kept (a .s .now) (a .draft) (a .kept) (a .voice) (a .rows .now) (a .members .now) (a .points .now)
+    (curve .add-curve .ensures .1) (curve .add-curve .ensures .0) (row .add-row .ensures) (ties .start-ties .ensures) (members .add-members .ensures)
+    (c .before .kept-after .ensures) (c .voice-after .ensures)))

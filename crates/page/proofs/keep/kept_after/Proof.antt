@@ -12,15 +12,11 @@ kept-after-spec =
     (λ c. search needs)
     (λ c κs. search needs)
     (λ c κs. search needs)
-    (λ c. search needs)
-    (λ c κs. search needs)
     (λ c.
-    let points = c .before in
-    let members = points .before .before in
+    let members = c .before .before in
     rw (
       members .before .plus .ensures,
-      c .before .before .plus2 .ensures,
+      c .before .plus2 .ensures,
       members .number-of .ensures .0,
       c .plus3 .ensures,
-      points .point-count .ensures .is,
     )))

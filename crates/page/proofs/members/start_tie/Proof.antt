@@ -3,7 +3,7 @@ use Prim.Native.Nat.{_+_}
 use native.Mathlib.Omega.{arith}
 use mathlib.Core.Path.{_≡_, refl, sym, _∙_}
 use lib.ListN.{length}
-use Rattle.page.specs.Words.{startWords}
+use Rattle.words.specs.Words.{startWords}
 use Rattle.page.proofs.Entering.{start-here, start-later}
 use borrow.Author.Needs.{needs}
 use Rattle.page.proofs.members.start_tie.Statement.{statement}

@@ -6,7 +6,7 @@ use mathlib.Core.List.{[]}
 use lib.ListN.{length, drop, drop-of-length-le}
 use Rattle.score.specs.Page.{startTies}
 use Rattle.draft.specs.Meant.{membersIn}
-use Rattle.page.specs.Words.{words}
+use Rattle.words.specs.Words.{words}
 use Rattle.page.proofs.Taken.{members-next}
 use borrow.Author.Needs.{needs}
 use Rattle.page.proofs.members.start_ties.Statement.{statement}

@@ -6,7 +6,7 @@ use mathlib.Core.Path.{_≡_, ap, _∙_}
 use mathlib.Core.List.{[], map}
 use Rattle.curve.specs.Bend.{inserts, withEnds, finish}
 use Rattle.curve.specs.Slots.{shown}
-use Rattle.beat.specs.Points.{pointsAt}
+use Rattle.note.specs.Points.{pointsAt}
 use Rattle.page.proofs.Curves.{pointIn, points-step, points-held}
 use borrow.Author.Needs.{needs}
 use Rattle.page.proofs.points.curve_of.Statement.{statement}

@@ -2,7 +2,7 @@
 use Prim.Native.Nat.{_+_}
 use native.Mathlib.Omega.{arith}
 use mathlib.Core.Path.{_≡_}
-use Rattle.beat.specs.Points.{word}
+use Rattle.note.specs.Points.{word}
 use borrow.Author.Needs.{needs}
 use Rattle.page.proofs.points.word_after.Statement.{statement}
 use Rattle.page.proofs.points.word_after.Tie as tie

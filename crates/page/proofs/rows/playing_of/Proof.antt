@@ -9,16 +9,4 @@ playing-of-spec =
     (tie.spec
     (λ c κs. search needs)
     (λ c κs. search needs)
-    (λ c. search needs)
-    (λ c κs. search needs)
-    (λ c κs. search needs)
-    (λ c κs. search needs)
-    (λ c.
-    let count = c .before .before .before in
-    rw (
-      count .before .text-left .ensures,
-      c .before .before .span-of .ensures,
-      count .point-count .ensures .is,
-      c .height-at .ensures,
-      c .before .curve-height .ensures,
-    )))
+    (λ c. rw (c .before .text-left .ensures, c .span-of .ensures)))

@@ -1,11 +1,9 @@
 -- Field by field. Assumes nothing.
-use Rattle.score.specs.Page.{rowEntry}
 use borrow.Author.Needs.{needs}
 use Rattle.page.proofs.rows.row_entry.Statement.{statement}
 use Rattle.page.proofs.rows.row_entry.Tie as tie
 
 pub row-entry-spec : {M : Type 1} → statement M
-unfolding rowEntry
 row-entry-spec =
     tie.close
     (tie.spec

@@ -1,0 +1,12 @@
+-- By definition. Assumes nothing.
+use mathlib.Core.Path.{refl}
+use Rattle.header.specs.Header.{has}
+use Rattle.header.proofs.has.Statement.{statement}
+use Rattle.header.proofs.has.Tie as tie
+
+pub has-spec : {M : Type 1} → statement M
+unfolding has
+has-spec =
+    tie.close
+    (tie.spec
+    (λ c. refl))

@@ -1,0 +1,14 @@
+-- One after another. Assumes nothing.
+use Rattle.words.proofs.Reports.{reports-append}
+use borrow.Author.Needs.{needs}
+use Rattle.losses.proofs.built_losses.Statement.{statement}
+use Rattle.losses.proofs.built_losses.Tie as tie
+
+pub built-losses-spec : {M : Type 1} → statement M
+built-losses-spec =
+    tie.close
+    (tie.spec
+    (λ c κs. search needs)
+    (λ c κs. search needs)
+    (λ c κs. search needs)
+    (λ c. rw (c .report-if2 .ensures, c .before .is-beyond .ensures, c .before .before .report-if .ensures) (simp reports-append)))

@@ -1,0 +1,13 @@
+-- One after another. Assumes nothing.
+use Rattle.words.proofs.Reports.{reports-append}
+use borrow.Author.Needs.{needs}
+use Rattle.losses.proofs.mix_losses.Statement.{statement}
+use Rattle.losses.proofs.mix_losses.Tie as tie
+
+pub mix-losses-spec : {M : Type 1} → statement M
+mix-losses-spec =
+    tie.close
+    (tie.spec
+    (λ c κs. search needs)
+    (λ c κs. search needs)
+    (λ c. rw (c .report-if2 .ensures, c .before .report-if .ensures) (simp reports-append)))

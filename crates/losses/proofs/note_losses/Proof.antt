@@ -1,0 +1,14 @@
+-- One after another. Assumes nothing.
+use Rattle.words.proofs.Reports.{reports-append}
+use borrow.Author.Needs.{needs}
+use Rattle.losses.proofs.note_losses.Statement.{statement}
+use Rattle.losses.proofs.note_losses.Tie as tie
+
+pub note-losses-spec : {M : Type 1} → statement M
+note-losses-spec =
+    tie.close
+    (tie.spec
+    (λ c κs. search needs)
+    (λ c κs. search needs)
+    (λ c κs. search needs)
+    (λ c. rw (c .report-if3 .ensures, c .before .report-if2 .ensures, c .before .before .report-if .ensures) (simp reports-append)))

@@ -1,0 +1,14 @@
+-- No points, or some. Assumes nothing.
+use mathlib.Core.Path.{_∙_}
+use Rattle.losses.proofs.Sums.{no-room, room}
+use borrow.Author.Needs.{needs}
+use Rattle.losses.proofs.rooms.bend_room.Statement.{statement}
+use Rattle.losses.proofs.rooms.bend_room.Tie as tie
+
+pub bend-room-spec : {M : Type 1} → statement M
+bend-room-spec =
+    tie.close
+    (tie.spec
+    (λ c. no-room _ _ (c .if1 .taken))
+    (λ c κs. search needs)
+    (λ c. c .plus .ensures ∙ room _ _ _ (c .before .if1 .left)))

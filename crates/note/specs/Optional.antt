@@ -1,0 +1,25 @@
+-- Flags, bytes below zero, and optional fields. Assumes nothing.
+use Prim.Native.Nat.{ℕ}
+use mathlib.Core.Bool.{Bool, not}
+use lib.Dec.{leb, ltb, eqb}
+use lib.Bits.{bitAnd}
+use Rattle.format.specs.Text.{pick}
+use Rattle.format.specs.Prog.{Prog, ret}
+use Rattle.format.specs.Fields.{u8}
+use Rattle.curve.specs.Held.{byteHalf}
+
+-- whether flags have a bit of the mask
+unfoldable pub has : (flags mask : ℕ) → Bool
+has flags mask = not (eqb (bitAnd flags mask) 0)
+
+-- whether a byte, as a signed number, is 0 or more
+unfoldable pub notNegative : ℕ → Bool
+notNegative b = ltb b byteHalf
+
+-- a field that is read where it is given; else a value stands for it
+unfoldable pub optional : {A : Type 0} → Bool → Prog A → A → Prog A
+optional given p none = pick given p (ret none)
+
+-- the second byte of flags of effects stands from v400 on
+unfoldable pub moreFlags : ℕ → Prog ℕ
+moreFlags v = optional (leb 400 v) u8 0

@@ -1,0 +1,17 @@
+-- Piece by piece. Assumes nothing.
+use mathlib.Core.Path.{_∙_}
+use Rattle.tracks.proofs.Places.{part-shown}
+use borrow.Author.Needs.{needs}
+use Rattle.tracks.proofs.parts.add_part.Statement.{statement}
+use Rattle.tracks.proofs.parts.add_part.Tie as tie
+
+pub add-part-spec : {M : Type 1} → statement M
+add-part-spec =
+    tie.close
+    (tie.spec
+    (λ c κs. search needs)
+    (λ c κs. search needs)
+    (λ c κs. search needs)
+    (λ c κs. search needs)
+    (λ c. search needs)
+    (λ c. c .before .before .put-voice2 .ensures ∙ rw (c .before .before .before .before .before .before .put-voice .ensures, c .before .before .before .before .before .before .before .before .before .before .put-running .ensures, c .before .before .before .before .before .before .before .before .before .before .before .before .before .before .put-board .ensures) (part-shown (c .before .before .before .before .before .before .before .before .before .before .before .before .before .before .before .before .before .before .args .track) _ _ (search needs))))

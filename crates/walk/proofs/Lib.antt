@@ -1,0 +1,2 @@
+pub mod Steps
+mod Heard

@@ -1,0 +1,49 @@
+-- Track by track. Assumes nothing.
+use borrow.Author.Needs.{needs}
+use Prim.Native.Nat.{_-_, _≤_}
+use native.Mathlib.Omega.{arith}
+use mathlib.Core.Path.{_≡_, refl}
+use lib.ListN.{length}
+use Rattle.format.specs.Prog.{turns}
+use Rattle.format.specs.Place.{Leads}
+use Rattle.format.proofs.Rules.{turn-on, turns-done, turns-start, turns-still}
+use Rattle.score.specs.File.{barTrack}
+use Rattle.words.specs.Meant.{walkOf}
+use Rattle.walk.specs.Entering.{entering}
+use Rattle.walk.proofs.bar_tracks.Statement.{statement}
+use Rattle.walk.proofs.bar_tracks.Tie as tie
+
+abbrev Inv-loop : tie.InvT-loop
+Inv-loop s v counting tracks bar bars₀ rows₀ members₀ points₀ texts₀ parts₀ tally₀ at₀ i₀ bars rows members points texts parts tally at i =
+    (i ≤ tracks) × (length bars ≡ length bars₀) × (length rows ≡ length rows₀) × (length members ≡ length members₀) × (length points ≡ length points₀) × (length texts ≡ length texts₀) × (length parts ≡ length parts₀) × Leads (turns tracks 0 (barTrack (entering counting s) v bar) (walkOf bars₀ rows₀ members₀ points₀ texts₀ parts₀ tally₀)) s at₀ (turns (tracks - i) i (barTrack (entering counting s) v bar) (walkOf bars rows members points texts parts tally)) at
+
+abbrev μ-loop : tie.MeasureT-loop
+μ-loop s v counting tracks bar bars₀ rows₀ members₀ points₀ texts₀ parts₀ tally₀ at₀ i₀ bars rows members points texts parts tally at i = tracks - i
+
+pub bar-tracks-spec : {M : Type 1} → statement M
+bar-tracks-spec =
+    tie.close
+    (tie.spec
+    Inv-loop
+    μ-loop
+    (λ c. (omega arith, refl, refl, refl, refl, refl, refl, turns-start _ _ _))
+    (λ c κs. search needs)
+    (λ c. search needs)
+    (λ c. search needs)
+    (λ c. search needs)
+    (λ c. search needs)
+    (λ c. search needs)
+    (λ c. search needs)
+    (λ c. search needs)
+    (λ c. search needs)
+    (λ c. turns-still (turn-on _ _ _ _ (c .before .before .before .before .before .before .before .before .before .before .before .before .before .before .before .before .before .before .before .before .before .before .before .loop .inv .7) (c .before .before .before .before .before .before .before .before .before .before .before .before .before .before .before .before .before .before .before .before .before .before .loop-test .taken) (c .before .before .before .before .before .before .before .before .before .before .before .before .before .before .before .bar-track .ensures)) (c .enum-told2 .given .1))
+    (λ c. omega (arith, c .before .before .before .before .before .before .before .before .before .before .before .before .before .before .before .before .before .before .before .before .before .before .loop-test .taken, c .before .before .before .before .before .before .before .before .before .before .before .before .before .before .before .before .before .before .before .before .before .before .before .before .before .before .before .before .before .before .before .fits))
+    (λ c. omega (arith, c .before .before .before .before .before .before .before .before .before .before .before .before .before .before .before .before .before .before .before .before .before .before .loop-test .taken))
+    (λ c. (omega (arith, c .before .before .before .before .before .before .before .before .before .before .before .before .before .before .before .before .before .before .before .before .before .before .loop-test .taken), search needs, search needs, search needs, search needs, search needs, search needs, turn-on _ _ _ _ (c .before .before .before .before .before .before .before .before .before .before .before .before .before .before .before .before .before .before .before .before .before .before .before .loop .inv .7) (c .before .before .before .before .before .before .before .before .before .before .before .before .before .before .before .before .before .before .before .before .before .before .loop-test .taken) (c .before .before .before .before .before .before .before .before .before .before .before .before .before .before .before .bar-track .ensures)))
+    (λ c. search needs)
+    (λ c. search needs)
+    (λ c. search needs)
+    (λ c. search needs)
+    (λ c. search needs)
+    (λ c. search needs)
+    (λ c. turns-done _ _ _ _ (c .before .loop .inv .7) (omega (arith, c .loop-test .left))))

@@ -1,0 +1,97 @@
+-- A beat entered, in two parts: what its notes give, and the rest. Assumes nothing.
+use Prim.Native.Nat.{ℕ}
+use mathlib.Core.List.{List}
+use mathlib.Core.Bool.{Bool}
+use Rattle.model.specs.declared.Key.{Key}
+use Rattle.model.specs.declared.Place.{Place}
+use Rattle.score.specs.Bars.{flatAfter}
+use Rattle.beat.specs.Beat.{BeatIs}
+use Rattle.score.specs.declared.Fretboard.{Fretboard}
+use Rattle.score.specs.declared.Kept.{Kept}
+use Rattle.score.specs.declared.Voice.{Voice}
+use Rattle.score.specs.Sounding.{Sounding, sounding, remember}
+use Rattle.score.specs.Members.{Keyed, inOrder}
+use Rattle.score.specs.Page.{TextIs, Rowing, keepBeat, withFrets, runningAfter, hasText, keepText, textsAfter, bendRooms, report, beatLosses}
+use Rattle.score.specs.declared.Tally.{Tally}
+use Rattle.format.specs.Text.{pick}
+use Rattle.words.specs.Words.{Words, words, wordPlus}
+use Rattle.words.specs.Meant.{rowingOf}
+
+pub record Sounded : Type 0 where
+  pub rows : List ℕ
+  pub members : List ℕ
+  pub points : List ℕ
+  pub parts : List ℕ
+  pub kept : Kept
+  pub chord : List Keyed
+
+abbrev pub soundedOf : (rows members points parts : List ℕ) → Kept → List Keyed → Sounded
+soundedOf rows members points parts kept chord =
+    record { rows = rows; members = members; points = points; parts = parts; kept = kept; chord = chord }
+
+module _ (s : List ℕ) (place : Place) (flat : Bool) (b : BeatIs) (kept : Kept) (rows members points parts : List ℕ) where
+  abbrev pub board : Fretboard
+  board = words s .boardAt (place .track) parts
+
+  abbrev pub memory : Voice
+  memory = words s .voiceAt (place .track) (place .voice) parts
+
+  abbrev pub running : ℕ
+  running = words s .runningAt (place .track) parts
+
+  abbrev pub heard : List Sounding
+  heard = sounding board (memory .frets) b
+
+  abbrev pub chord : List Keyed
+  chord = inOrder board heard
+
+  abbrev pub rowing : Rowing Words
+  rowing = keepBeat (words s) place board flat running b chord (rowingOf rows members points kept (withFrets memory (remember (memory .frets) heard)))
+
+  unfoldable pub sounded : Sounded
+  sounded =
+      record {
+        rows = rowing .rows;
+        members = rowing .members;
+        points = rowing .points;
+        parts = words s .putRunning (place .track) (runningAfter (words s) running b chord) (words s .putVoice (place .track) (place .voice) (rowing .voice) parts);
+        kept = rowing .kept;
+        chord = chord;
+      }
+
+-- ---- the rest
+module _ (s : List ℕ) (place : Place) (b : BeatIs) (count : ℕ) (texts : List ℕ) where
+  abbrev pub own : TextIs
+  own = record { bar = place .bar; track = place .track; text = b .text }
+
+  abbrev pub textsWith : List ℕ
+  textsWith = pick (hasText b) (keepText (words s) count own texts) texts
+
+  abbrev pub countWith : ℕ
+  countWith = pick (hasText b) (textsAfter (words s) count own texts) count
+
+abbrev pub textRoom : List ℕ → BeatIs → ℕ → ℕ
+textRoom s b room = pick (hasText b) (wordPlus room 1) room
+
+unfoldable pub tallyWith : List ℕ → BeatIs → Kept → List Keyed → (texts : ℕ) → Tally → Tally
+tallyWith s b kept chord texts tally =
+    record {
+      kept = kept;
+      texts = texts;
+      «text_room» = textRoom s b (tally .«text_room»);
+      «point_room» = wordPlus (tally .«point_room») (bendRooms (b .strings) 0 (b .notes));
+      flat = tally .flat;
+      losses = report (words s) (beatLosses (words s) b chord) (tally .losses);
+    }
+
+-- ---- a bar with this key is entered
+abbrev pub inBar : Key → Tally → Tally
+inBar key tally =
+    record {
+      kept = tally .kept;
+      texts = tally .texts;
+      «text_room» = tally .«text_room»;
+      «point_room» = tally .«point_room»;
+      flat = flatAfter (tally .flat) key;
+      losses = tally .losses;
+    }

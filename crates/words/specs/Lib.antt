@@ -1,0 +1,6 @@
+pub mod Words
+pub mod Reports
+pub mod Lent
+pub mod Meant
+pub mod Heads
+pub mod Counted
