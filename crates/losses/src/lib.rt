@@ -22,9 +22,9 @@ use beat::Beat;
 use beat::effects::BeatEffects;
 use beat::mix::Mix;
 use draft::Chord;
-use draft::sounding::note_of;
 use model::Loss;
 use note::LeftHand;
+use note::NO_NOTE;
 use note::Note;
 use note::NoteRead;
 use note::marks::GraceNote;
@@ -182,7 +182,8 @@ fn member_losses(s: &[u8], losses: [u32; 17], notes: [Note; 7], chord: Chord) ->
     let mut i: usize = 0;
     while i < n {
         let struck = chord.notes[i];
-        let note = note_of(notes, struck.string);
+        let string = struck.string as usize;
+        let note = if string < 7 { notes[string] } else { NO_NOTE };
         let more = built_losses(counts, note.read);
         counts = more;
         i += 1;
@@ -198,7 +199,8 @@ fn grace_losses(s: &[u8], losses: [u32; 17], notes: [Note; 7], chord: Chord) -> 
     let mut i: usize = 0;
     while i < n {
         let struck = chord.notes[i];
-        let note = note_of(notes, struck.string);
+        let string = struck.string as usize;
+        let note = if string < 7 { notes[string] } else { NO_NOTE };
         let effects = note.read.effects;
         let grace = effects.grace;
         let more = report_if(counts, on_beat(grace), Loss::OnBeatGrace);

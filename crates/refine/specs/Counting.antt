@@ -2,7 +2,7 @@
 -- to its end it has counted the same rows and members and the same rooms.
 use Prim.Native.Nat.{ℕ, zero, suc, _+_, _*_, _≤_, _<_}
 use mathlib.Core.Path.{_≡_, refl, ap, sym, _∙_}
-use mathlib.Core.Bool.{Bool, true, false, _&&_}
+use mathlib.Core.Bool.{Bool, true, false}
 use mathlib.Core.List.{List, [], _∷_, _++_, map}
 use native.Mathlib.Decide.{decLe}
 use native.Mathlib.Omega.{arith}
@@ -18,9 +18,7 @@ use Rattle.format.specs.Yields.{Bytes}
 use Rattle.model.specs.declared.Place.{Place}
 use Rattle.note.specs.declared.marks.GraceNote.{GraceNote}
 use Rattle.note.specs.declared.marks.GraceNote.the-variants.{NoGrace, Before}
-use Rattle.note.specs.Optional.{has}
 use Rattle.note.specs.Note.{NoteIs, noNote}
-use Rattle.note.specs.Notes.{stringBit}
 use Rattle.beat.specs.Beat.{BeatIs}
 use Rattle.score.specs.declared.Fretboard.{Fretboard}
 use Rattle.score.specs.declared.Hammer.{Hammer}
@@ -30,10 +28,9 @@ use Rattle.score.specs.declared.OttavaRun.{OttavaRun}
 use Rattle.score.specs.declared.OttavaRun.the-variants.{NoRun, Over}
 use Rattle.score.specs.declared.Remembered.{Remembered}
 use Rattle.score.specs.declared.Voice.{Voice}
-use Rattle.score.specs.File.{Song, file}
-use Rattle.score.specs.Facts.{BeatFacts}
+use Rattle.score.specs.File.{file}
 use Rattle.score.specs.Follow.{Relations, Alike, Agreed, Both, alike, upto-bytes}
-use Rattle.score.specs.Sounding.{Sounding, sounds, noteAt, soundingAt, soundingFrom, sounding, remember}
+use Rattle.score.specs.Sounding.{Sounding, sounds, soundingAt, soundingFrom, sounding, remember}
 use Rattle.score.specs.Members.{Keyed, keyed, place, ordered, inOrder, Graced, gracedAfter, graces}
 use Rattle.score.specs.Rows.{RowIs, restRow, chordRow, graceRow, graceRows, beatRow, rowsOf}
 use Rattle.score.specs.Page.{Heads, Staves, Walk, Rowing, keeping, keepRow, keepRows, keepBeat, enterBar, addBeat, withFrets}

@@ -9,9 +9,6 @@ ghost use Rattle.score.specs.File as file;
 ghost use Rattle.words.specs.Meant.{walkOf};
 ghost use Rattle.walk.specs.Entering.{entering, beatStep};
 
-mod count; // a beat is only counted
-mod enter; // a beat is entered in the tables
-
 // What is counted so far, and where reading goes on.
 pub struct Walked {
     pub tally: Tally,
@@ -41,7 +38,7 @@ fn one_beat(
     };
     let beat = read.beat;
     if counting {
-        let tally = count::count_beat(s, place.track as usize, beat, tally, parts);
+        let tally = enter::count::count_beat(s, place.track as usize, beat, tally, parts);
         return Walked { tally, next };
     }
     let tally = enter::add_beat(

@@ -2,11 +2,16 @@
 use Prim.Native.Nat.{_≤_, _-_}
 use mathlib.Core.Path.{_≡_, sym, _∙_}
 use mathlib.Core.List.{map}
+use mathlib.Core.Logic.{⊎-elim}
 use native.Mathlib.Omega.{arith}
-use lib.ListN.{take, drop, drop-of-length-le}
+use lib.ListN.{getD, take, drop, drop-of-length-le}
+use Rattle.note.specs.Marks.{noMarks}
 use Rattle.score.specs.Members.{graces}
 use Rattle.score.specs.Losses.{graceLosses}
+use Rattle.draft.specs.Chord.{silent}
 use Rattle.draft.specs.Meant.{struckIn, chordIn}
+use Rattle.draft.specs.Voicing.{noStruck}
+use Rattle.draft.proofs.Notes.{past-strings}
 use Rattle.words.specs.Reports.{reports}
 use Rattle.words.proofs.Reports.{reports-none}
 use Rattle.losses.proofs.Counting.{graces-next}
@@ -22,6 +27,16 @@ Inv-loop s notes chord n counts₀ i₀ counts i =
 abbrev μ-loop : tie.MeasureT-loop
 μ-loop s notes chord n counts₀ i₀ counts i = n - i
 
+-- the note that stands there, or none past the seven strings
+here : (c : tie.Joined1 Inv-loop μ-loop) →
+    let o = c .before .before .before .before in
+    let a = o .before .before .before .args in
+    c .if1 .note ≡ getD (a .t3) (getD (a .t4 .notes) (o .loop .i) noStruck .string) silent
+unfolding silent noMarks
+here c =
+    let g = c .before .before .before .before .before .before .before in
+    ⊎-elim (λ w. w .2) (λ w. w .1 ∙ past-strings (g .args .t3) _ (g .good .1 .1 .0 .1 .0 .1) (w .0 .left)) (c .if1 .came)
+
 pub grace-losses-spec : {M : Type 1} → statement M
 unfolding chordIn
 grace-losses-spec =
@@ -33,17 +48,20 @@ grace-losses-spec =
     (λ c. search needs)
     (λ c. search needs)
     (λ c. search needs)
-    (λ c κs. search needs)
+    (λ c. search needs)
+    (λ c. search needs)
+    (λ c. search needs)
     (λ c κs. search needs)
     (λ c κs. search needs)
     (λ c. search needs)
     (λ c. search needs)
     (λ c.
-    let o = c .before .before .before .before .before .before in
+    let n = c .before .before .before in
+    let o = n .before .before .before .before in
     let a = o .before .before .before .args in (
       search needs,
-      rw (c .report-if .ensures, c .before .on-beat .ensures, c .before .before .before .note-of .ensures)
-          (sym (graces-next (a .s .now) (a .notes) (a .t4) _ (o .loop .i) (o .loop .counts) (omega (arith, o .before .size .ensures .0))) ∙ o .loop .inv .1),
+      rw (c .report-if .ensures, c .before .on-beat .ensures, here n)
+          (sym (graces-next (a .s .now) (a .t3) (a .t4) noStruck (o .loop .i) (o .loop .counts) (omega (arith, o .before .size .ensures .0))) ∙ o .loop .inv .1),
     ))
     (λ c.
     let a = c .before .before .before .before .args in

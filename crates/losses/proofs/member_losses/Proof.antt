@@ -2,10 +2,15 @@
 use Prim.Native.Nat.{_≤_, _-_}
 use mathlib.Core.Path.{_≡_, sym, _∙_}
 use mathlib.Core.List.{map}
+use mathlib.Core.Logic.{⊎-elim}
 use native.Mathlib.Omega.{arith}
-use lib.ListN.{take, drop, drop-of-length-le}
+use lib.ListN.{getD, take, drop, drop-of-length-le}
+use Rattle.note.specs.Marks.{noMarks}
 use Rattle.score.specs.Losses.{memberLosses}
+use Rattle.draft.specs.Chord.{silent}
 use Rattle.draft.specs.Meant.{struckIn, chordIn}
+use Rattle.draft.specs.Voicing.{noStruck}
+use Rattle.draft.proofs.Notes.{past-strings}
 use Rattle.words.specs.Reports.{reports}
 use Rattle.words.proofs.Reports.{reports-none}
 use Rattle.losses.proofs.Counting.{members-next}
@@ -21,6 +26,16 @@ Inv-loop s notes chord n counts₀ i₀ counts i =
 abbrev μ-loop : tie.MeasureT-loop
 μ-loop s notes chord n counts₀ i₀ counts i = n - i
 
+-- the note that stands there, or none past the seven strings
+here : (c : tie.Joined1 Inv-loop μ-loop) →
+    let o = c .before .before .before .before in
+    let a = o .before .before .before .args in
+    c .if1 .note ≡ getD (a .t3) (getD (a .t4 .notes) (o .loop .i) noStruck .string) silent
+unfolding silent noMarks
+here c =
+    let g = c .before .before .before .before .before .before .before in
+    ⊎-elim (λ w. w .2) (λ w. w .1 ∙ past-strings (g .args .t3) _ (g .good .1 .1 .0 .1 .0 .1) (w .0 .left)) (c .if1 .came)
+
 pub member-losses-spec : {M : Type 1} → statement M
 unfolding chordIn
 member-losses-spec =
@@ -32,16 +47,19 @@ member-losses-spec =
     (λ c. search needs)
     (λ c. search needs)
     (λ c. search needs)
-    (λ c κs. search needs)
+    (λ c. search needs)
+    (λ c. search needs)
+    (λ c. search needs)
     (λ c κs. search needs)
     (λ c. search needs)
     (λ c. search needs)
     (λ c.
-    let o = c .before .before .before .before in
+    let n = c .before in
+    let o = n .before .before .before .before in
     let a = o .before .before .before .args in (
       search needs,
-      rw (c .built-losses .ensures, c .before .note-of .ensures)
-          (sym (members-next (a .s .now) (a .notes) (a .t4) _ (o .loop .i) (o .loop .counts) (omega (arith, o .before .size .ensures .0))) ∙ o .loop .inv .1),
+      rw (c .built-losses .ensures, here n)
+          (sym (members-next (a .s .now) (a .t3) (a .t4) noStruck (o .loop .i) (o .loop .counts) (omega (arith, o .before .size .ensures .0))) ∙ o .loop .inv .1),
     ))
     (λ c.
     let a = c .before .before .before .before .args in

@@ -1,0 +1,46 @@
+-- A beat entered step by step is the beat entered. Assumes nothing.
+use Prim.Native.Nat.{ℕ}
+use mathlib.Core.Path.{_≡_, ap, _∙_}
+use mathlib.Core.List.{List}
+use mathlib.Core.Bool.{Bool}
+use Rattle.model.specs.declared.Place.{Place}
+use Rattle.beat.specs.Beat.{BeatIs}
+use Rattle.score.specs.declared.Fretboard.{Fretboard}
+use Rattle.score.specs.declared.Kept.{Kept}
+use Rattle.score.specs.declared.Remembered.{Remembered}
+use Rattle.score.specs.declared.Tally.{Tally}
+use Rattle.score.specs.declared.Voice.{Voice}
+use Rattle.score.specs.Sounding.{sounding, remember}
+use Rattle.score.specs.Members.{Keyed, inOrder}
+use Rattle.score.specs.Page.{keepBeat, withFrets, runningAfter, addBeat}
+use Rattle.words.specs.Words.{words}
+use Rattle.words.specs.Meant.{rowingOf, walkOf}
+use Rattle.enter.specs.Steps.{Sounded, soundedOf, sounded, rowing, textsWith, countWith, tallyWith}
+
+module _ (s : List ℕ) (place : Place) (flat : Bool) (b : BeatIs) (kept : Kept) (rows members points parts : List ℕ) where
+  pub sounds : {board : Fretboard} {memory read voice : Voice} {running after : ℕ} {chord : List Keyed} {frets : List Remembered}
+      {kept2 : Kept} {rows2 members2 points2 parts2 parts3 : List ℕ}
+      → board ≡ words s .boardAt (place .track) parts → memory ≡ words s .voiceAt (place .track) (place .voice) parts → running ≡ words s .runningAt (place .track) parts
+      → chord ≡ inOrder board (sounding board (memory .frets) b) → frets ≡ remember (memory .frets) (sounding board (memory .frets) b) → read ≡ withFrets memory frets
+      → rowingOf rows2 members2 points2 kept2 voice ≡ keepBeat (words s) place board flat running b chord (rowingOf rows members points kept read)
+      → parts2 ≡ words s .putVoice (place .track) (place .voice) voice parts → after ≡ runningAfter (words s) running b chord → parts3 ≡ words s .putRunning (place .track) after parts2
+      → soundedOf rows2 members2 points2 parts3 kept2 chord ≡ sounded s place flat b kept rows members points parts
+  unfolding sounded
+  sounds {board} {memory} {read} {voice} {running} {after} {chord} {frets} {kept2} {rows2} {members2} {points2} {parts2} {parts3} e1 e2 e3 e4 e5 e6 e7 e8 e9 e10 =
+      let g : rowingOf rows2 members2 points2 kept2 voice ≡ rowing s place flat b kept rows members points parts = e7 ∙ rw (e6, e5, e4, e2, e1, e3) in
+      let v : voice ≡ rowing s place flat b kept rows members points parts .voice = ap (λ r. r .voice) g in
+      let h : chord ≡ inOrder (words s .boardAt (place .track) parts) (sounding (words s .boardAt (place .track) parts) (words s .voiceAt (place .track) (place .voice) parts .frets) b) = e4 ∙ rw (e2, e1) in
+      let q : parts3 ≡ sounded s place flat b kept rows members points parts .parts = e10 ∙ rw (e9, e8, v, h, e3) in
+      λ i. soundedOf (g i .rows) (g i .members) (g i .points) (q i) (g i .kept) (h i)
+
+module _ (s : List ℕ) (place : Place) (b : BeatIs) (tally : Tally) (bars rows members points texts parts : List ℕ) where
+  pub adds : {kept : Kept} {chord : List Keyed} {count : ℕ} {tally2 : Tally} {bars2 rows2 members2 points2 texts2 parts2 : List ℕ}
+      → soundedOf rows2 members2 points2 parts2 kept chord ≡ sounded s place (tally .flat) b (tally .kept) rows members points parts
+      → texts2 ≡ textsWith s place b (tally .texts) texts → count ≡ countWith s place b (tally .texts) texts
+      → bars2 ≡ words s .tempoAt (place .bar) (b .mix .tempo) bars → tally2 ≡ tallyWith s b kept chord count tally
+      → walkOf bars2 rows2 members2 points2 texts2 parts2 tally2 ≡ addBeat (words s) (place .bar) (place .track) (place .voice) b (walkOf bars rows members points texts parts tally)
+  unfolding sounded addBeat tallyWith
+  adds {kept} {chord} {count} e1 e2 e3 e4 e5 =
+      let k : kept ≡ _ = ap (λ (x : Sounded). x .kept) e1 in
+      let h : chord ≡ _ = ap (λ (x : Sounded). x .chord) e1 in
+      λ i. walkOf (e4 i) (e1 i .rows) (e1 i .members) (e1 i .points) (e2 i) (e1 i .parts) ((e5 ∙ (λ j. tallyWith s b (k j) (h j) (e3 j) tally)) i)

@@ -1,0 +1,11 @@
+-- Field by field. Assumes nothing.
+use borrow.Author.Needs.{needs}
+use Rattle.enter.proofs.enter_bar.Statement.{statement}
+use Rattle.enter.proofs.enter_bar.Tie as tie
+
+pub enter-bar-spec : {M : Type 1} → statement M
+enter-bar-spec =
+    tie.close
+    (tie.spec
+    (λ c κs. search needs)
+    (λ c. rw (c .flat-after .ensures)))

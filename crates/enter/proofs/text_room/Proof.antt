@@ -1,0 +1,14 @@
+-- By whether the beat has a text. Assumes nothing.
+use borrow.Author.Needs.{needs}
+use mathlib.Core.Path.{sym}
+use Rattle.enter.proofs.text_room.Statement.{statement}
+use Rattle.enter.proofs.text_room.Tie as tie
+
+pub text-room-spec : {M : Type 1} → statement M
+text-room-spec =
+    tie.close
+    (tie.spec
+    (λ c κs. search needs)
+    (λ c κs. search needs)
+    (λ c. rw (sym (c .before .before .has-text .ensures), c .before .if1 .taken) (c .plus .ensures))
+    (λ c. rw (sym (c .before .has-text .ensures), c .if1 .left)))

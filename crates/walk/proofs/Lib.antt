@@ -1,2 +1,0 @@
-pub mod Steps
-mod Heard
