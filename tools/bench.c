@@ -4,7 +4,6 @@
 #include <stdint.h>
 #include <stdio.h>
 #include <stdlib.h>
-#include <string.h>
 
 void fungusleigh_read(const uint8_t *data, size_t bytes, uint32_t *bars, size_t, uint32_t *tracks, size_t,
                       uint32_t *rows, size_t, uint32_t *members, size_t, uint32_t *points, size_t, uint32_t *texts,
@@ -12,7 +11,7 @@ void fungusleigh_read(const uint8_t *data, size_t bytes, uint32_t *bars, size_t,
 
 enum { TABLES = 6, SAID = 14, OUTCOME = 0, USED = 1, ROOMS = 8, NO_ROOM = 6 };
 enum { WIDEST = 32 };        /* words, at least those of any entry */
-enum { STACK = 4 << 20, MARK = 0xA5 };
+enum { STACK = 4 << 20, EDGE = 4096, MARK = 0xA5 };
 
 static uint32_t *table[TABLES], said[SAID];
 static size_t words[TABLES];
@@ -28,17 +27,17 @@ static void lend(int i, size_t n) {
     if (!table[i]) exit(2);
 }
 
-/* The bytes of the stack below here, marked; then how many of them, from the far end, are marked still. */
+/* The stack below here is marked; then a byte counts as touched from the first one, beyond the far end's edge, that is not marked. */
 static void mark(void) {
     volatile uint8_t below[STACK];
-    memset((void *)below, MARK, STACK);
+    for (size_t i = 0; i < STACK; i++) below[i] = MARK;
 }
 
 static size_t touched(void) {
     volatile uint8_t below[STACK];
-    size_t left = 0;
-    while (left < STACK && below[left] == MARK) left++;
-    return STACK - left;
+    size_t at = EDGE;
+    while (at < STACK && below[at] == MARK) at++;
+    return STACK - at;
 }
 
 int main(int count, char **word) {
