@@ -1,10 +1,13 @@
 -- A row entered in its three tables, and the rows of a beat. Assumes nothing.
-use Prim.Native.Nat.{ℕ, _*_}
+use Prim.Native.Nat.{ℕ, zero, suc, _+_, _*_, _≤_, _<_}
 use native.Mathlib.Omega.{arith}
 use mathlib.Core.Path.{_≡_, refl}
 use mathlib.Core.List.{List, [], _∷_, _++_}
-use mathlib.Core.Bool.{Bool, true, false}
+use mathlib.Core.Bool.{Bool, true}
+use lib.ListN.{drop, drop-of-length-le}
+use lib.Dec.{eqb}
 use lib.Seq.{sets}
+use Rattle.format.specs.Text.{pick}
 use Rattle.model.specs.declared.Place.{Place}
 use Rattle.tables.specs.Table.{stores}
 use Rattle.entries.specs.Words.{rowStride, rowWords, memberStride, memberWords, pointStride, pointWords}
@@ -62,32 +65,38 @@ module _ (s : List ℕ) (d : Draft) (kept : Kept) (voice : Voice) (rows members 
         points-stored s (kept .points) its points,
       )
 
--- ---- the rows of a beat
-module _ {T : Kind → Type 0} (the : Tables T) (place : Place) (board : Fretboard) (flat : Bool) where
-  pub no-grace : (gs : List Graced) (w : Rowing T) → anyOf gs ≡ false
-      → w ≡ keepRows the (graceRows place board flat gs) w
-  no-grace [] w e = refl
-  no-grace (g ∷ gs) w e = let z : _≡_ {A = ℕ} 0 1 = cc in absurd (omega arith)
+-- ---- the rows of a beat, by turns: that of its graces at turn 0, its own at turn 1
+module _ (place : Place) (board : Fretboard) (flat : Bool) (running : ℕ) (b : BeatIs) (xs : List Keyed) where
+  -- shut, so that what these laws are given can be read off it
+  unfoldable pub bothRows : List RowIs
+  bothRows = graceRow place board flat (graces xs) ∷ beatRow place board flat running b xs ∷ []
 
-  pub a-grace : (gs : List Graced) (w : Rowing T) {after : Rowing T} → anyOf gs ≡ true
-      → after ≡ keepRow the (graceRow place board flat gs) w → after ≡ keepRows the (graceRows place board flat gs) w
-  a-grace [] w e f = let z : _≡_ {A = ℕ} 0 1 = cc in absurd (omega arith)
-  a-grace (g ∷ gs) w e f = f
+  pub first-rows : {turn : ℕ} → turn ≡ pick (anyOf (graces xs)) 0 1
+      → drop turn bothRows ≡ rowsOf place board flat running b xs
+  unfolding bothRows rowsOf
+  first-rows e = rw e (by (graces xs))
+    where
+      by : (gs : List Graced)
+          → drop (pick (anyOf gs) 0 1) (graceRow place board flat gs ∷ beatRow place board flat running b xs ∷ [])
+          ≡ graceRows place board flat gs ++ (beatRow place board flat running b xs ∷ [])
+      by [] = refl
+      by (g ∷ gs) = refl
 
-  last-kept : (rs : List RowIs) (r : RowIs) (w : Rowing T)
-      → keepRow the r (keepRows the rs w) ≡ keepRows the (rs ++ (r ∷ [])) w
-  last-kept [] r w = refl
-  last-kept (x ∷ rs) r w = last-kept rs r (keepRow the x w)
+  module _ {T : Kind → Type 0} (the : Tables T) where
+    pub row-on : (turn : ℕ) (now : Rowing T) {row : RowIs} {next all : Rowing T}
+        → keepRows the (drop turn bothRows) now ≡ all
+        → turn < 2
+        → row ≡ pick (eqb turn 0) (graceRow place board flat (graces xs)) (beatRow place board flat running b xs)
+        → next ≡ keepRow the row now
+        → keepRows the (drop (turn + 1) bothRows) next ≡ all
+    unfolding bothRows
+    row-on zero now g h e f = rw (f, e) g
+    row-on (suc zero) now g h e f = rw (f, e) g
+    row-on (suc (suc n)) now g h e f = absurd (omega arith)
 
-  module _ (running : ℕ) (b : BeatIs) (xs : List Keyed) (w : Rowing T) where
-    pub not-kept : b .head .kept ≡ false → w ≡ keepBeat the place board flat running b xs w
-    not-kept e = rw e
-
-    pub beat-kept : {after last : Rowing T} → b .head .kept ≡ true
-        → after ≡ keepRows the (graceRows place board flat (graces xs)) w
-        → last ≡ keepRow the (beatRow place board flat running b xs) after
+    pub beat-kept : (turn : ℕ) (w : Rowing T) {last : Rowing T} → b .head .kept ≡ true
+        → keepRows the (drop turn bothRows) last ≡ keepRows the (rowsOf place board flat running b xs) w
+        → 2 ≤ turn
         → last ≡ keepBeat the place board flat running b xs w
-    unfolding rowsOf
-    beat-kept e f g =
-        picked {x = keepRows the (rowsOf place board flat running b xs) w} w e
-        (rw (g, f) (last-kept (graceRows place board flat (graces xs)) (beatRow place board flat running b xs) w))
+    unfolding bothRows
+    beat-kept turn w e g h = picked w e (rw (drop-of-length-le bothRows {i = turn} h) at g)

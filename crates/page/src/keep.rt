@@ -14,10 +14,13 @@ use score::Kept;
 use score::Voice;
 use words::plus;
 ghost use mathlib.Core.Path.{_≡_};
+ghost use lib.Dec.{eqb};
+ghost use Rattle.format.specs.Text.{pick};
 ghost use Rattle.beat.specs.Beat.{beatIn};
-ghost use Rattle.score.specs.Page.{lastAfter, keepRow, keepRows, keepBeat};
+ghost use Rattle.score.specs.Page.{lastAfter, keepRow, keepBeat};
 ghost use Rattle.score.specs.Members.{graces};
-ghost use Rattle.score.specs.Rows.{graceRows};
+ghost use Rattle.score.specs.Rows.{graceRow, beatRow};
+ghost use Rattle.draft.specs.Steps.{anyOf};
 ghost use Rattle.draft.specs.Meant.{chordIn, draftIn};
 ghost use Rattle.words.specs.Words.{words};
 ghost use Rattle.words.specs.Meant.{rowingOf};
@@ -99,33 +102,41 @@ pub fn keep_row(
     }
 }
 
-// A grace row stands directly before its beat's row.
-fn keep_grace(
+// The row of a beat's graces, at turn 0, and the beat's own at turn 1.
+fn row_at(
     s: &[u8],
     place: Place,
     board: Fretboard,
     flat: bool,
+    running: u8,
     beat: Beat,
     chord: Chord,
-    kept: Kept,
-    voice: Voice,
-    rows: &mut [u32],
-    members: &mut [u32],
-    points: &mut [u32],
-) -> Rowed
-    ensures { λ r. ⌜ rowingOf (now (rows .exit)) (now (members .exit)) (now (points .exit)) (r .kept) (r .voice)
-        ≡ keepRows (words (now (s .entry)))
-        (graceRows place board flat (graces (chordIn (now (s .entry)) (beat .notes) chord)))
-        (rowingOf (now (rows .entry)) (now (members .entry)) (now (points .entry)) kept voice) ⌝ }
+    turn: u32,
+) -> Draft
+    ensures { λ r. ⌜ draftIn (now (s .entry)) r
+        ≡ pick (eqb turn 0) (graceRow place board flat (graces (chordIn (now (s .entry)) (beat .notes) chord)))
+        (beatRow place board flat running (beatIn (now (s .entry)) beat)
+        (chordIn (now (s .entry)) (beat .notes) chord)) ⌝ }
 {
-    let notes = beat.notes;
-    if !draft::rows::has_grace(s, notes, chord) {
-        return Rowed { kept, voice };
+    if turn == 0 {
+        let notes = beat.notes;
+        return draft::rows::grace_row(s, place, board, flat, notes, chord);
     }
-    let row = draft::rows::grace_row(s, place, board, flat, notes, chord);
-    keep_row(s, row, kept, voice, rows, members, points)
+    draft::rows::beat_row(s, place, board, flat, running, beat, chord)
 }
 
+// Where there are no graces, the beat's own row is the first.
+fn first_turn(s: &[u8], beat: Beat, chord: Chord) -> u32
+    ensures { λ r. ⌜ r ≡ pick (anyOf (graces (chordIn (now (s .entry)) (beat .notes) chord))) 0 1 ⌝ }
+{
+    let notes = beat.notes;
+    if draft::rows::has_grace(s, notes, chord) {
+        return 0;
+    }
+    1
+}
+
+// A loop, so that `keep_row` is called at one place: the compiler inlines it there, and not where it is called at two.
 pub fn keep_beat(
     s: &[u8],
     place: Place,
@@ -149,21 +160,18 @@ pub fn keep_beat(
     if !head.kept {
         return Rowed { kept, voice };
     }
-    let graced = keep_grace(
-        s,
-        place,
-        board,
-        flat,
-        beat,
-        chord,
-        kept,
-        voice,
-        rows,
-        members,
-        points,
-    );
-    let kept_now = graced.kept;
-    let voice_now = graced.voice;
-    let row = draft::rows::beat_row(s, place, board, flat, running, beat, chord);
-    keep_row(s, row, kept_now, voice_now, rows, members, points)
+    let mut turn = first_turn(s, beat, chord);
+    let mut kept_now = kept;
+    let mut voice_now = voice;
+    while turn < 2 {
+        let row = row_at(s, place, board, flat, running, beat, chord, turn);
+        let rowed = keep_row(s, row, kept_now, voice_now, rows, members, points);
+        kept_now = rowed.kept;
+        voice_now = rowed.voice;
+        turn += 1;
+    }
+    Rowed {
+        kept: kept_now,
+        voice: voice_now,
+    }
 }
