@@ -3,10 +3,9 @@ ghost use Rattle.format.specs.Text.{noText, textIn};
 ghost use Rattle.format.specs.Place.{Reaches, Gives};
 ghost use Rattle.beat.specs.Chord as format;
 use bin::string::Kept;
+use format::NO_RANGE;
 use format::Place;
 use format::Range;
-
-pub(crate) const NO_RANGE: Range = Range { start: 0, end: 0 };
 
 // A name of fixed width, between the bytes of its diagram.
 fn diagram_name(s: &[u8], from: Place, lead: usize, width: usize, rest: usize) -> Kept
@@ -24,7 +23,7 @@ fn diagram_name(s: &[u8], from: Place, lead: usize, width: usize, rest: usize) -
 fn old_frets_past(s: &[u8], from: Place, v: u32, first: u32) -> Place
     ensures { λ r. ⌜ Reaches (format.oldFrets v first) (now (s .entry)) from tt r ⌝ }
 {
-    if crate::NEGATIVE <= first {
+    if bin::NEGATIVE <= first {
         return from;
     }
     if first == 0 {

@@ -10,6 +10,7 @@ pub mod mix; // the mix table of a beat
 pub mod tail; // the ottava
 
 use effects::BeatEffects;
+use format::NO_RANGE;
 use format::Place;
 use format::Range;
 use head::Head;
@@ -17,9 +18,6 @@ use mix::Mix;
 use model::Ottava;
 use note::Note;
 use note::notes;
-
-// The first 32-bit number that stands for one below zero.
-pub(crate) const NEGATIVE: u32 = 0x8000_0000;
 
 // A beat as read. The string bits say which of its notes are there, note i for bit 6 - i.
 pub struct Beat {
@@ -40,8 +38,8 @@ pub struct BeatRead {
 
 const NO_BEAT: Beat = Beat {
     head: head::NO_HEAD,
-    chord: chord::NO_RANGE,
-    text: chord::NO_RANGE,
+    chord: NO_RANGE,
+    text: NO_RANGE,
     effects: effects::NO_EFFECTS,
     mix: mix::NO_MIX,
     strings: 0,

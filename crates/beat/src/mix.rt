@@ -88,7 +88,7 @@ fn tempo_name_past(s: &[u8], from: Place, v: u32) -> Place
 fn tempo_end(s: &[u8], from: Place, v: u32, tempo: u32) -> Place
     ensures { λ r. ⌜ Reaches (format.tempoEnd v tempo) (now (s .entry)) from tt r ⌝ }
 {
-    let given = tempo < crate::NEGATIVE;
+    let given = tempo < bin::NEGATIVE;
     skip_if(s, skip_if(s, from, given, 1), given & (510 <= v), 1)
 }
 
@@ -114,19 +114,6 @@ fn mix_strings_past(s: &[u8], from: Place, v: u32) -> Place
     bin::string::int_byte_string_past(s, at)
 }
 
-// The tempo in 1..999, or none.
-fn tempo_of(tempo: u32) -> Tempo
-    ensures { λ r. ⌜ r ≡ format.tempoOf tempo ⌝ }
-{
-    if tempo < 1 {
-        return Tempo::NoTempo;
-    }
-    if 999 < tempo {
-        return Tempo::NoTempo;
-    }
-    Tempo::Bpm(tempo as u16)
-}
-
 fn mix_end(s: &[u8], from: Place, v: u32, changed: bool, tempo: u32) -> MixRead
     ensures { λ r. ⌜ Reaches (format.mixEnd v changed tempo) (now (s .entry)) from (r .mix) (r .next) ⌝ }
 {
@@ -136,7 +123,7 @@ fn mix_end(s: &[u8], from: Place, v: u32, changed: bool, tempo: u32) -> MixRead
     let next = mix_strings_past(s, at, v);
     MixRead {
         mix: Mix {
-            tempo: tempo_of(tempo),
+            tempo: model::kinds::tempo_from(tempo),
             wah_lost: wah.given,
             change_lost: changed,
         },

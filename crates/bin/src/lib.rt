@@ -28,8 +28,8 @@ pub struct Number {
 
 const ENDS: Place = Place::Stopped(Stop::Ends);
 
-// the first 32-bit number that is negative
-const NEGATIVE: u32 = 2147483648;
+// The first 32-bit number that stands for one below zero.
+pub const NEGATIVE: u32 = 0x8000_0000;
 
 // how many bytes stand from a position on
 fn left(s: &[u8], at: usize) -> usize

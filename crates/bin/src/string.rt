@@ -6,6 +6,7 @@ ghost use lib.Seq.{slice};
 ghost use Rattle.format.specs.Text.{blank, cutLen, leadLen, keepLen, rangeOf, noText, textIn};
 ghost use Rattle.format.specs.Place.{Gives};
 ghost use Rattle.format.specs.Fields as field;
+use format::NO_RANGE;
 use format::Place;
 use format::Range;
 use format::Stop;
@@ -15,8 +16,6 @@ pub struct Kept {
     pub range: Range,
     pub next: Place,
 }
-
-const NO_RANGE: Range = Range { start: 0, end: 0 };
 
 const ENDED: Kept = Kept {
     range: NO_RANGE,

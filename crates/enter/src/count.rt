@@ -1,14 +1,11 @@
 // A beat is only counted: the rows and members that it makes, and the rooms that it needs.
 ghost use mathlib.Core.Path.{_≡_};
-ghost use mathlib.Core.Bool.{_&&_};
 ghost use mathlib.Core.List.{map};
 ghost use Prim.Native.Nat.{_≤_};
-ghost use lib.Dec.{ltb};
 ghost use Rattle.format.specs.Text.{pick};
 ghost use Rattle.beat.specs.Beat.{beatIn};
 ghost use Rattle.note.specs.Note.{noteIn};
-ghost use Rattle.note.specs.Notes.{stringBit};
-ghost use Rattle.note.specs.Optional.{has};
+ghost use Rattle.score.specs.Sounding.{soundsOn};
 ghost use Rattle.words.specs.Counted.{oneNote, oneGrace, graceOf, graced, keptWith, keptOf, stringsOn, countTally};
 ghost use Rattle.words.specs.Counted as spec;
 use beat::Beat;
@@ -37,8 +34,8 @@ fn one_grace(grace: GraceNote) -> u32
 }
 
 fn string_heard(board: Fretboard, bits: u8, i: usize, grace: GraceNote) -> Heard
-    ensures notes { λ r. ⌜ r .notes ≡ pick (has bits (stringBit i) && ltb i (board .strings .count)) 1 0 ⌝ }
-    ensures graces { λ r. ⌜ r .graces ≡ pick (has bits (stringBit i) && ltb i (board .strings .count)) (oneGrace grace) 0 ⌝ }
+    ensures notes { λ r. ⌜ r .notes ≡ pick (soundsOn (board .strings .count) bits i) 1 0 ⌝ }
+    ensures graces { λ r. ⌜ r .graces ≡ pick (soundsOn (board .strings .count) bits i) (oneGrace grace) 0 ⌝ }
     ensures most { λ r. ⌜ (r .notes ≤ 1) × (r .graces ≤ 1) ⌝ }
 {
     if sounds(board, bits, i) {

@@ -1,5 +1,6 @@
 -- A file format as a value: a program of reads, and what it is to run one. Assumes nothing.
 use Prim.Native.Nat.{ℕ, zero, suc, _+_}
+use mathlib.Core.Bool.{Bool, not}
 use mathlib.Core.List.{List}
 use lib.ListN.{length, getD, take, drop}
 use lib.Dec.{ltb, leb, eqb}
@@ -49,6 +50,10 @@ whenLe a b p q = pick (leb a b) p q
 
 unfoldable pub whenEq : {A : Type 0} → ℕ → ℕ → Prog A → Prog A → Prog A
 whenEq a b p q = pick (eqb a b) p q
+
+-- whether flags have a bit of the mask
+unfoldable pub has : (flags mask : ℕ) → Bool
+has flags mask = not (eqb (bitAnd flags mask) 0)
 
 -- the first where a has a bit of m, and else the second
 unfoldable pub whenBits : {A : Type 0} → ℕ → ℕ → Prog A → Prog A → Prog A

@@ -9,6 +9,9 @@ pub struct Range {
     pub end: usize,
 }
 
+// Where a text is not given.
+pub const NO_RANGE: Range = Range { start: 0, end: 0 };
+
 // The counts that have a limit.
 pub enum Counted {
     NoticeLines,

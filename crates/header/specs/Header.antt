@@ -2,7 +2,6 @@
 use Prim.Native.Nat.{ℕ, _+_, _-_}
 use mathlib.Core.Bool.{Bool, false, not}
 use lib.Dec.{leb, ltb, eqb}
-use lib.Bits.{bitAnd}
 use lib.Count.{trailingZeros, ones}
 use lib.IntN.{ℤ, pos, negsuc}
 use Rattle.format.specs.declared.Counted.the-variants as C
@@ -13,7 +12,7 @@ use Rattle.model.specs.declared.Mode.the-variants.{Major, Minor}
 use Rattle.model.specs.declared.Key.{Key}
 use Rattle.model.specs.declared.Key.the-variants.{NoKey, Fifths}
 use Rattle.format.specs.Text.{Text, noText, pick}
-use Rattle.format.specs.Prog.{Prog, ret, refuse, bind, whenLe, whenEq, whenBits}
+use Rattle.format.specs.Prog.{Prog, ret, refuse, bind, whenLe, whenEq, whenBits, has}
 use Rattle.format.specs.Fields.{u8, skip, count, intByteString}
 use Rattle.song.specs.Info.{noRange}
 use Rattle.header.specs.declared.Counts.{Counts}
@@ -33,10 +32,6 @@ noCounts = record { bars = 0; tracks = 0 }
 -- bars, then tracks
 unfoldable pub counts : Prog Counts
 counts = bind (count C.Bars) (λ bars. bind (count C.Tracks) (λ tracks. notEmpty bars tracks))
-
--- whether flags have a bit of the mask
-unfoldable pub has : ℕ → ℕ → Bool
-has flags mask = not (eqb (bitAnd flags mask) 0)
 
 -- ---- time: inherited from the header before (first: 4/4)
 unfoldable pub commonTime : Time

@@ -1,7 +1,7 @@
 // Counts of bars and tracks, and bar headers.
 ghost use mathlib.Core.Path.{_≡_};
 ghost use Rattle.format.specs.Text.{textIn};
-ghost use Rattle.format.specs.Prog.{ret, whenBits};
+ghost use Rattle.format.specs.Prog.{ret, whenBits, has};
 ghost use Rattle.format.specs.Place.{Gives, Reaches};
 ghost use Rattle.format.specs.Fields as field;
 ghost use Rattle.header.specs.Header as head;
@@ -9,13 +9,13 @@ use bin::Byte;
 use bin::skip_at;
 use bin::string::Kept;
 use format::Counted;
+use format::NO_RANGE;
 use format::Place;
 use format::Range;
 use format::Stop;
 use model::Key;
 use model::Mode;
 use model::Time;
-use song::NO_RANGE;
 
 pub struct Counts {
     pub bars: u32,
@@ -124,7 +124,7 @@ pub fn counts_at(s: &[u8], from: Place) -> CountsRead
 
 // Whether the flags have a bit of the mask.
 pub fn has(flags: u8, mask: u8) -> bool
-    ensures { λ r. ⌜ r ≡ head.has flags mask ⌝ }
+    ensures { λ r. ⌜ r ≡ has flags mask ⌝ }
 {
     flags & mask != 0
 }

@@ -16,7 +16,7 @@ use Rattle.model.specs.declared.Loss.the-variants.{OnBeatGrace}
 use Rattle.note.specs.declared.marks.GraceNote.{GraceNote}
 use Rattle.note.specs.declared.marks.GraceNote.the-variants.{NoGrace, Before}
 use Rattle.note.specs.declared.Note.{Note}
-use Rattle.note.specs.Optional.{has}
+use Rattle.format.specs.Prog.{has}
 use Rattle.note.specs.Notes.{stringBit}
 use Rattle.note.specs.Note.{noteIn}
 use Rattle.beat.specs.Beat.{BeatIs}

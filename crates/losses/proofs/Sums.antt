@@ -14,7 +14,7 @@ use lib.Seq.{slice, drop-cons, drop-nil}
 use Rattle.format.specs.Text.{pick}
 use Rattle.note.specs.declared.bend.Bend.{Bend}
 use Rattle.note.specs.declared.Note.{Note}
-use Rattle.note.specs.Optional.{has}
+use Rattle.format.specs.Prog.{has}
 use Rattle.note.specs.Notes.{stringBit}
 use Rattle.note.specs.Note.{noteIn}
 use Rattle.note.specs.Points.{pointsAt, bendIn}

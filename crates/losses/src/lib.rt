@@ -6,7 +6,7 @@ ghost use Prim.Native.Nat.{_≤_};
 ghost use lib.ListN.{length, take, replicate};
 ghost use Rattle.model.specs.declared.Loss.the-variants.{TripletFeel, UnsupportedDirection};
 ghost use Rattle.format.specs.Text.{pick};
-ghost use Rattle.note.specs.Optional.{has};
+ghost use Rattle.format.specs.Prog.{has};
 ghost use Rattle.note.specs.Note.{noteIn};
 ghost use Rattle.note.specs.Notes.{stringBit};
 ghost use Rattle.beat.specs.Beat.{beatIn};

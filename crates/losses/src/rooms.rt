@@ -2,7 +2,7 @@
 ghost use mathlib.Core.Path.{_≡_};
 ghost use mathlib.Core.List.{map};
 ghost use Rattle.format.specs.Text.{pick};
-ghost use Rattle.note.specs.Optional.{has};
+ghost use Rattle.format.specs.Prog.{has};
 ghost use Rattle.note.specs.Note.{noteIn};
 ghost use Rattle.note.specs.Notes.{stringBit};
 ghost use Rattle.note.specs.Points.{bendIn};

@@ -4,7 +4,7 @@ use Prim.Native.Nat.{ℕ, _+_, _-_, _%_}
 use mathlib.Core.Bool.{Bool, true, false, not}
 use mathlib.Core.List.{List, [], _∷_}
 use lib.ListN.{getD}
-use lib.Dec.{eqb}
+use lib.Dec.{eqb, leb}
 use lib.IntN.{ℤ, pos, negsuc}
 use Rattle.format.specs.Text.{pick}
 use Rattle.bin.specs.Signed.{signed, unsigned}
@@ -295,6 +295,10 @@ tempoWord (Bpm n) = n
 
 unfoldable pub tempoOf : ℕ → Tempo
 tempoOf w = pick (eqb w 0) NoTempo (Bpm (w % 65536))
+
+-- a number of the file in 1..999 is a tempo, any other is none
+unfoldable pub tempoFrom : ℕ → Tempo
+tempoFrom n = pick (leb 1 n) (pick (leb n 999) (Bpm n) NoTempo) NoTempo
 
 -- a program and one, 0 for none
 abbrev pub programWord : Program → ℕ

@@ -27,7 +27,7 @@ use bin::signed;
 ghost use mathlib.Core.Path.{_≡_};
 ghost use Prim.Native.Nat.{_%_};
 ghost use Rattle.bin.specs.Signed.{signed};
-ghost use Rattle.model.specs.Kinds.{endingPlaceWord, endingPlaceOf, directionWord, directionOf, clefWord, clefOf, rowKindWord, rowKindOf, durationWord, durationOf, techniqueWord, techniqueOf, techniqueTextWord, techniqueTextOf, dynamicWord, dynamicOf, articulationWord, articulationOf, arpeggioWord, arpeggioOf, noteHeadWord, noteHeadOf, ottavaWord, ottavaOf, fingerWord, fingerOf, flagWord, flagOf, modeWord, fifthsWord, keyOf, endingWord, endingOf, passesWord, passesOf, tempoWord, tempoOf, programWord, programOf, actualWord, normalWord, tupletOf, stringWord, fretWord, positionOf, centsWord, centsOf, perMilleOf, peakWord, heightWord, heightOf, durationCode, unitsOf};
+ghost use Rattle.model.specs.Kinds.{endingPlaceWord, endingPlaceOf, directionWord, directionOf, clefWord, clefOf, rowKindWord, rowKindOf, durationWord, durationOf, techniqueWord, techniqueOf, techniqueTextWord, techniqueTextOf, dynamicWord, dynamicOf, articulationWord, articulationOf, arpeggioWord, arpeggioOf, noteHeadWord, noteHeadOf, ottavaWord, ottavaOf, fingerWord, fingerOf, flagWord, flagOf, modeWord, fifthsWord, keyOf, endingWord, endingOf, passesWord, passesOf, tempoWord, tempoOf, tempoFrom, programWord, programOf, actualWord, normalWord, tupletOf, stringWord, fretWord, positionOf, centsWord, centsOf, perMilleOf, peakWord, heightWord, heightOf, durationCode, unitsOf};
 
 pub fn ending_place_word(x: EndingPlace) -> u32
     ensures { λ r. ⌜ r ≡ endingPlaceWord x ⌝ }
@@ -480,6 +480,19 @@ pub fn tempo_of(word: u32) -> Tempo
         return Tempo::NoTempo;
     }
     Tempo::Bpm((word % 65536) as u16)
+}
+
+// The tempo that a number of the file gives: 1 to 999, or none.
+pub fn tempo_from(number: u32) -> Tempo
+    ensures { λ r. ⌜ r ≡ tempoFrom number ⌝ }
+{
+    if number < 1 {
+        return Tempo::NoTempo;
+    }
+    if number <= 999 {
+        return Tempo::Bpm(number as u16);
+    }
+    Tempo::NoTempo
 }
 
 pub fn program_word(x: Program) -> u32

@@ -3,13 +3,14 @@ use Prim.Native.Nat.{ℕ, zero, suc, _-_, _≤_}
 use native.Mathlib.Omega.{arith}
 use mathlib.Core.Path.{_≡_, refl, ap}
 use mathlib.Core.List.{List, [], _∷_, map}
+use lib.Bits.{bitAnd}
 use lib.ListN.{set}
 use Rattle.format.specs.declared.Place.{Place}
 use Rattle.format.specs.Place.{Reaches}
-use Rattle.format.proofs.Rules.{then, done}
+use Rattle.format.proofs.Rules.{then, done, bits-yes, bits-no}
 use Rattle.note.specs.declared.Note.{Note}
-use Rattle.note.specs.Note.{noteIn}
-use Rattle.note.specs.Notes.{stringBit, stringNote, stringTurn}
+use Rattle.note.specs.Note.{NoteIs, note, noteIn}
+use Rattle.note.specs.Notes.{stringBit, stringTurn}
 
 -- from the seventh string on the bit is the lowest
 lowest : (i : ℕ) → 6 ≤ i → 1 ≡ stringBit i
@@ -25,6 +26,9 @@ map-set f [] i x = refl
 map-set f (y ∷ l) zero x = refl
 map-set f (y ∷ l) (suc i) x = ap (λ zs. f y ∷ zs) (map-set f l i x)
 
--- a turn writes one note
-pub note-turn : {s : List ℕ} {at next : Place} (v strings i : ℕ) (ns : List Note) (n : Note) → Reaches (stringNote v strings i) s at (noteIn s n) next → Reaches (stringTurn v strings i (map (noteIn s) ns)) s at (map (noteIn s) (set ns i n)) next
-note-turn {s} v strings i ns n h = rw (map-set (noteIn s) ns i n) (then _ h done)
+-- a turn writes one note, or none
+pub turn-yes : {s : List ℕ} {at next : Place} (v strings i : ℕ) (ns : List Note) (n : Note) → (bitAnd strings (stringBit i) ≡ 0 → ⊥) → Reaches (note v) s at (noteIn s n) next → Reaches (stringTurn v strings i (map (noteIn s) ns)) s at (map (noteIn s) (set ns i n)) next
+turn-yes {s} v strings i ns n h k = rw (map-set (noteIn s) ns i n) (bits-yes _ _ _ _ h (then _ k done))
+
+pub turn-no : {s : List ℕ} {at : Place} (v strings i : ℕ) (ns : List NoteIs) → bitAnd strings (stringBit i) ≡ 0 → Reaches (stringTurn v strings i ns) s at ns at
+turn-no v strings i ns h = bits-no _ _ _ _ h done

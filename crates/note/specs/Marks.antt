@@ -3,7 +3,7 @@ use Prim.Native.Nat.{ℕ}
 use mathlib.Core.List.{List, []}
 use mathlib.Core.Bool.{true, false, not, _&&_}
 use lib.Dec.{leb, ltb, eqb}
-use Rattle.format.specs.Prog.{Prog, ret, bind, whenLe, whenEq, whenBits}
+use Rattle.format.specs.Prog.{Prog, ret, bind, whenLe, whenEq, whenBits, has}
 use Rattle.format.specs.Fields.{u8, skip}
 use Rattle.curve.specs.Held.{held, byteHalf, byteEnd}
 use Rattle.curve.specs.Slide.{slideOf}
@@ -15,7 +15,7 @@ use Rattle.note.specs.declared.marks.Tremolo.{Tremolo}
 use Rattle.note.specs.declared.marks.Tremolo.the-variants.{NoTremolo, Strokes}
 use Rattle.note.specs.declared.marks.Harmonic.{Harmonic}
 use Rattle.note.specs.declared.marks.NoteEffects.{NoteEffects}
-use Rattle.note.specs.Optional.{has, optional, moreFlags}
+use Rattle.note.specs.Optional.{optional, moreFlags}
 use Rattle.note.specs.Points.{BendPoint, bend, bendIn}
 
 -- effects as the format has them: a bend with its points

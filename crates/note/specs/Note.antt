@@ -4,7 +4,7 @@ use mathlib.Core.List.{List, []}
 use mathlib.Core.Bool.{false, _&&_}
 use lib.Dec.{leb, ltb, eqb}
 use Rattle.format.specs.Text.{pick}
-use Rattle.format.specs.Prog.{Prog, ret, bind, whenBits}
+use Rattle.format.specs.Prog.{Prog, ret, bind, whenBits, has}
 use Rattle.format.specs.Fields.{u8, skip}
 use Rattle.curve.specs.Held.{held, byteHalf}
 use Rattle.curve.specs.Level.{noteLevel}
@@ -16,7 +16,7 @@ use Rattle.note.specs.declared.LeftHand.the-variants.{NoFinger, Finger, 
 use Rattle.note.specs.declared.Hands.{Hands}
 use Rattle.note.specs.declared.NoteRead.{NoteRead}
 use Rattle.note.specs.declared.Note.{Note}
-use Rattle.note.specs.Optional.{has, notNegative, optional}
+use Rattle.note.specs.Optional.{notNegative, optional}
 use Rattle.note.specs.Points.{BendPoint, bendIn}
 use Rattle.note.specs.Marks.{noteEffects, noMarks}
 

@@ -1,16 +1,11 @@
--- Flags, bytes below zero, and optional fields. Assumes nothing.
+-- Bytes below zero, and optional fields. Assumes nothing.
 use Prim.Native.Nat.{ℕ}
-use mathlib.Core.Bool.{Bool, not}
-use lib.Dec.{leb, ltb, eqb}
-use lib.Bits.{bitAnd}
+use mathlib.Core.Bool.{Bool}
+use lib.Dec.{leb, ltb}
 use Rattle.format.specs.Text.{pick}
 use Rattle.format.specs.Prog.{Prog, ret}
 use Rattle.format.specs.Fields.{u8}
 use Rattle.curve.specs.Held.{byteHalf}
-
--- whether flags have a bit of the mask
-unfoldable pub has : (flags mask : ℕ) → Bool
-has flags mask = not (eqb (bitAnd flags mask) 0)
 
 -- whether a byte, as a signed number, is 0 or more
 unfoldable pub notNegative : ℕ → Bool

@@ -1,6 +1,6 @@
 // A note: its string is known by the beat.
 ghost use mathlib.Core.Path.{_≡_};
-ghost use Rattle.format.specs.Place.{Reaches, Gives};
+ghost use Rattle.format.specs.Place.{Reaches};
 ghost use Rattle.note.specs.Note as format;
 
 pub mod bend; // the points of a bend, where they stand
@@ -51,7 +51,7 @@ pub struct Note {
     pub bend: Bend,
 }
 
-pub struct NoteAt {
+pub(crate) struct NoteAt {
     pub note: Note,
     pub next: Place,
 }
@@ -216,18 +216,10 @@ fn note_by(s: &[u8], from: Place, v: u32, flags: u8) -> NoteAt
     note_end(s, at, v, flags, kind.value, level, fret.value)
 }
 
-pub fn read_note(s: &[u8], from: Place, v: u32) -> NoteAt
-    ensures { λ r. ⌜ Gives (format.note v) format.noNote (now (s .entry)) from (format.noteIn (now (s .entry)) (r .note)) (r .next) ⌝ }
+pub(crate) fn read_note(s: &[u8], from: Place, v: u32) -> NoteAt
+    ensures { λ r. ⌜ Reaches (format.note v) (now (s .entry)) from (format.noteIn (now (s .entry)) (r .note)) (r .next) ⌝ }
 {
     let flags = bin::u8_at(s, from);
     let at = flags.next;
-    let read = note_by(s, at, v, flags.value);
-    let next = read.next;
-    let Place::At(_) = next else {
-        return NoteAt {
-            note: NO_NOTE,
-            next,
-        };
-    };
-    read
+    note_by(s, at, v, flags.value)
 }

@@ -1,11 +1,10 @@
 // The notes of a beat: at most seven, one for each string bit that is set.
 ghost use mathlib.Core.Path.{_≡_};
 ghost use mathlib.Core.List.{map};
-ghost use Rattle.format.specs.Place.{Reaches, Gives};
+ghost use Rattle.format.specs.Place.{Gives};
 ghost use Rattle.note.specs.Note.{noteIn};
 ghost use Rattle.note.specs.Notes as format;
 use crate::Note;
-use crate::NoteAt;
 use format::Place;
 
 pub struct NotesRead {
@@ -30,18 +29,6 @@ pub fn string_bit(i: usize) -> u8
     }
 }
 
-fn string_note(s: &[u8], from: Place, v: u32, strings: u8, i: usize) -> NoteAt
-    ensures { λ r. ⌜ Reaches (format.stringNote v strings i) (now (s .entry)) from (noteIn (now (s .entry)) (r .note)) (r .next) ⌝ }
-{
-    if strings & string_bit(i) != 0 {
-        return crate::read_note(s, from, v);
-    }
-    NoteAt {
-        note: crate::NO_NOTE,
-        next: from,
-    }
-}
-
 pub fn read_notes(s: &[u8], from: Place, v: u32, strings: u8) -> NotesRead
     ensures { λ r. ⌜ Gives (format.notes v strings) format.noNotes (now (s .entry)) from (map (noteIn (now (s .entry))) (r .notes)) (r .next) ⌝ }
 {
@@ -49,10 +36,12 @@ pub fn read_notes(s: &[u8], from: Place, v: u32, strings: u8) -> NotesRead
     let mut at = from;
     let mut i = 0;
     while i < 7 {
-        let read = string_note(s, at, v, strings, i);
-        at = read.next;
-        let note = read.note;
-        notes[i] = note;
+        if strings & string_bit(i) != 0 {
+            let read = crate::read_note(s, at, v);
+            at = read.next;
+            let note = read.note;
+            notes[i] = note;
+        }
         i += 1;
     }
     let Place::At(_) = at else {

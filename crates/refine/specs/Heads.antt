@@ -28,7 +28,7 @@ use Rattle.score.specs.Facts.{HeaderFacts, TrackFacts}
 use Rattle.score.specs.File.{Song}
 use Rattle.score.specs.Losses.{reportIf, reported, headerLosses, trackLosses}
 use Rattle.score.specs.Page as Page
-use Rattle.score.specs.Page.{Kind, Heads, Staves, Walk, noVoice, partOf, trackEntry, report, addHeader, addTrack}
+use Rattle.score.specs.Page.{Heads, Staves, Walk, noVoice, partOf, trackEntry, report, addHeader, addTrack}
 use Rattle.score.specs.Page.{enterBar, noBars, noTracks, noBeats}
 use Rattle.score.specs.Score.{Lists, lists, none}
 use Rattle.words.specs.Lent.{Lent, lent}

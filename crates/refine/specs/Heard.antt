@@ -19,7 +19,7 @@ use Rattle.curve.specs.Level.{forte, later, lastGiven, allEmphasised, chordOf, 
 use Rattle.note.specs.declared.marks.GraceNote.{GraceNote}
 use Rattle.note.specs.declared.marks.GraceNote.the-variants.{NoGrace, Before}
 use Rattle.note.specs.declared.NoteRead.{NoteRead}
-use Rattle.note.specs.Optional.{has}
+use Rattle.format.specs.Prog.{has}
 use Rattle.note.specs.Note.{NoteIs, noNote}
 use Rattle.note.specs.Notes.{stringBit}
 use Rattle.beat.specs.Beat.{BeatIs}

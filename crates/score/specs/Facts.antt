@@ -15,7 +15,7 @@ use borrow.Author.Tests.{leb-true}
 use Rattle.format.specs.declared.Counted.{Counted}
 use Rattle.format.specs.declared.Counted.the-variants as C
 use Rattle.format.specs.Text.{pick}
-use Rattle.format.specs.Prog.{ret, whenBits}
+use Rattle.format.specs.Prog.{ret, whenBits, has}
 use Rattle.format.specs.Fields.{u8, limitOf, count}
 use Rattle.format.specs.Yields.{Yields, Bytes, Inside, OfFile}
 use Rattle.format.proofs.Yields.{yield-any, yield-ret, yield-refuse, yield-less, yield-bind, yield-after, yield-turns}
@@ -24,6 +24,7 @@ use Rattle.format.proofs.Yields.{yield-u8, yield-byte, yield-skip, yield-number
 use Rattle.format.proofs.Yields.{yield-noText, yield-fixedString, yield-intByteStringUnused, yield-intByteString}
 use Rattle.model.specs.declared.Tempo.the-variants.{NoTempo, Bpm}
 use Rattle.model.specs.declared.Time.{Time}
+use Rattle.model.specs.Kinds.{tempoFrom}
 use Rattle.model.specs.Fits.{KeyFits, TempoFits}
 use Rattle.curve.specs.Held.{held, byteHalf, wordHalf}
 use Rattle.curve.specs.declared.level.Level.{Level}
@@ -32,17 +33,16 @@ use Rattle.curve.specs.Level.{heldLevel, noteLevel}
 use Rattle.header.specs.declared.Counts.{Counts}
 use Rattle.header.specs.declared.Header.{Header}
 use Rattle.track.specs.declared.Track.{Track}
-use Rattle.note.specs.Optional.{has}
 use Rattle.header.specs.Header as H
 use Rattle.track.specs.Track as T
 use Rattle.note.specs.declared.marks.GraceNote.{GraceNote}
 use Rattle.note.specs.declared.marks.GraceNote.the-variants.{NoGrace, Before}
 use Rattle.note.specs.Points.{BendPoint, bendPoint, bendPoints, bend}
 use Rattle.beat.specs.Chord.{diagram, oldChord, earlyChord, chord, chordName, beatText}
-use Rattle.beat.specs.Mix.{tempoOf, noMix, mixEnd, mixTempo, mixTable, mix}
+use Rattle.beat.specs.Mix.{noMix, mixEnd, mixTempo, mixTable, mix}
 use Rattle.note.specs.Marks.{noteBend, graceOf, graceNote, grace, noMarks, marksOf, marks, noNoteEffects, noteEffects}
 use Rattle.note.specs.Note.{NoteIs, readOf, noteEnd, noteBy, note, noNote}
-use Rattle.note.specs.Notes.{stringBit, stringNote, noNotes, notes}
+use Rattle.note.specs.Notes.{stringBit, noNotes, notes}
 use Rattle.beat.specs.Head.{head}
 use Rattle.beat.specs.Beat.{BeatIs, beatNotes, beatBy, beat}
 use Rattle.score.specs.Page.{bendRoom, bendRooms}
@@ -168,8 +168,8 @@ chord-facts : {s : List ℕ} {at : ℕ} (v flags : ℕ) → Yields s (chordName 
 unfolding chordName chord earlyChord
 chord-facts v flags = search (yielding, diagram-name, old-name, yield-noText) depth 8
 
-tempo-fits : (v : ℕ) → TempoFits (tempoOf v)
-unfolding tempoOf
+tempo-fits : (v : ℕ) → TempoFits (tempoFrom v)
+unfolding tempoFrom
 tempo-fits v = go (leb 1 v) (leb v 999) refl refl
   where
     go : (t u : Bool) → leb 1 v ≡ t → leb v 999 ≡ u → TempoFits (pick t (pick u (Bpm v) NoTempo) NoTempo)
@@ -254,11 +254,6 @@ noNote-fits : NoteFits noNote
 unfolding noNote noMarks
 noNote-fits = record { fret = omega arith; grace = tt; level = tt }
 
-string-facts : {s : List ℕ} {at : ℕ} (v strings i : ℕ)
-    → Yields s (stringNote v strings i) at (λ x n. NoteFits x × (at + bendRoom (x .bend) ≤ n))
-unfolding stringNote noNote
-string-facts v strings i = yield-bits _ _ (note-facts v) (yield-ret (noNote-fits, omega arith))
-
 -- a note that is put in takes no more than its own room
 rooms-set : (strings k : ℕ) (ns : List NoteIs) (i : ℕ) (x : NoteIs)
     → bendRooms strings k (set ns i x) ≤ bendRooms strings k ns + bendRoom (x .bend)
@@ -275,12 +270,12 @@ notes-facts : {s : List ℕ} {at : ℕ} (v strings : ℕ) → Yields s (notes v 
 unfolding notes noNotes
 notes-facts {at = at} v strings =
     yield-turns (NotesFacts strings at) _
-    (λ i ns m k. yield-bind _ (string-facts v strings i) (λ x n w h.
+    (λ i ns m k. yield-bits _ _ (yield-bind _ (note-facts v) (λ x n w h.
     yield-ret (record {
       seven = length-set ns i x ∙ k .seven;
       each = all-set NoteFits noNote ns i x (h .0) (k .each);
       rooms = omega (arith, rooms-set strings 0 ns i x);
-    })))
+    }))) (yield-ret k))
     7 0 _
     (record {
       seven = refl;

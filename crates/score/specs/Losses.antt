@@ -9,7 +9,7 @@ use Rattle.model.specs.declared.Loss.the-variants as L
 use Rattle.model.specs.Answers.{lossNumber}
 use Rattle.header.specs.declared.Header.{Header}
 use Rattle.track.specs.declared.Track.{Track}
-use Rattle.note.specs.Optional.{has}
+use Rattle.format.specs.Prog.{has}
 use Rattle.note.specs.declared.LeftHand.{LeftHand}
 use Rattle.note.specs.declared.LeftHand.the-variants as H
 use Rattle.beat.specs.declared.effects.BeatEffects.{BeatEffects}

@@ -43,7 +43,7 @@ use Rattle.curve.specs.declared.level.LevelAfter.{LevelAfter}
 use Rattle.curve.specs.Level.{forte, chordOf, levelAfter}
 use Rattle.header.specs.declared.Header.{Header}
 use Rattle.track.specs.declared.Track as STrack
-use Rattle.note.specs.Optional.{has}
+use Rattle.format.specs.Prog.{has}
 use Rattle.note.specs.Points.{BendPoint}
 use Rattle.note.specs.Note.{NoteIs}
 use Rattle.note.specs.Notes.{stringBit}

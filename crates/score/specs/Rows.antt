@@ -33,7 +33,7 @@ use Rattle.curve.specs.declared.level.Level.{Level}
 use Rattle.curve.specs.declared.level.Level.the-variants.{Absent}
 use Rattle.curve.specs.declared.level.NoteLevel.{NoteLevel}
 use Rattle.curve.specs.declared.slide.SlideEffect.{SlideEffect}
-use Rattle.note.specs.Optional.{has}
+use Rattle.format.specs.Prog.{has}
 use Rattle.beat.specs.declared.effects.BeatEffects.{BeatEffects}
 use Rattle.note.specs.declared.marks.NoteEffects.{NoteEffects}
 use Rattle.note.specs.declared.NoteRead.{NoteRead}

@@ -6,7 +6,7 @@ use lib.ListN.{getD, replicate, set}
 use lib.Dec.{ltb}
 use Rattle.format.specs.Text.{pick}
 use Rattle.note.specs.declared.NoteRead.{NoteRead}
-use Rattle.note.specs.Optional.{has}
+use Rattle.format.specs.Prog.{has}
 use Rattle.note.specs.Note.{NoteIs, noNote}
 use Rattle.note.specs.Notes.{stringBit}
 use Rattle.beat.specs.Beat.{BeatIs}
@@ -37,8 +37,11 @@ pub record Sounding : Type 0 where
   pub note : NoteIs
 
 -- note i is that of string i, bit 6 - i; a string past the track's strings is read and dropped
+abbrev pub soundsOn : (strings bits i : ℕ) → Bool
+soundsOn strings bits i = has bits (stringBit i) && ltb i strings
+
 abbrev pub sounds : Fretboard → BeatIs → ℕ → Bool
-sounds board beat i = has (beat .strings) (stringBit i) && ltb i (board .strings .count)
+sounds board beat i = soundsOn (board .strings .count) (beat .strings) i
 
 abbrev pub noteAt : BeatIs → ℕ → NoteIs
 noteAt beat i = getD (beat .notes) i noNote

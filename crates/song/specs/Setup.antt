@@ -4,7 +4,7 @@ use mathlib.Core.List.{List}
 use lib.ListN.{replicate, set}
 use lib.Dec.{leb}
 use Rattle.model.specs.declared.Tempo.{Tempo}
-use Rattle.model.specs.declared.Tempo.the-variants.{NoTempo, Bpm}
+use Rattle.model.specs.Kinds.{tempoFrom}
 use Rattle.format.specs.Text.{pick}
 use Rattle.format.specs.Prog.{Prog, ret, bind, whenLe, turns}
 use Rattle.format.specs.Fields.{u16, u32, skip, intByteStringPast}
@@ -22,10 +22,6 @@ templates = turns 10 0 (λ _ _. intByteStringPast) tt
 unfoldable pub page : ℕ → Prog Unit
 page v = whenLe 500 v (bind (skip 28) (λ _. bind (skip 2) (λ _. bind templates (λ _. intByteStringPast)))) (ret tt)
 
--- the tempo in 1..999, or none
-unfoldable pub tempoOf : ℕ → Tempo
-tempoOf v = pick (leb 1 v) (pick (leb v 999) (Bpm v) NoTempo) NoTempo
-
 -- passed over: "hide-tempo", from v510
 unfoldable pub hideTempo : ℕ → Prog Unit
 hideTempo v = whenLe 510 v (skip 1) (ret tt)
@@ -36,7 +32,7 @@ octave v = whenLe 400 v (skip 1) (ret tt)
 
 -- the file's tempo; passed over: "global key"
 unfoldable pub tempo : ℕ → Prog Tempo
-tempo v = bind u32 (λ t. bind (hideTempo v) (λ _. bind (skip 4) (λ _. bind (octave v) (λ _. ret (tempoOf t)))))
+tempo v = bind u32 (λ t. bind (hideTempo v) (λ _. bind (skip 4) (λ _. bind (octave v) (λ _. ret (tempoFrom t)))))
 
 -- page setup and tempo
 unfoldable pub setup : ℕ → Prog Tempo

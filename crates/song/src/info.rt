@@ -4,13 +4,13 @@ ghost use mathlib.Core.Bool.{false};
 ghost use Rattle.format.specs.Text.{textIn};
 ghost use Rattle.format.specs.Place.{Gives, Reaches};
 ghost use Rattle.song.specs.Info as info;
-use crate::NEGATIVE;
-use crate::NO_RANGE;
 use crate::from_zero;
+use bin::NEGATIVE;
 use bin::string::Kept;
 use bin::string::int_byte_string_unused;
 use bin::string::int_byte_string_unused_past;
 use format::Counted;
+use format::NO_RANGE;
 use format::Place;
 use format::Range;
 

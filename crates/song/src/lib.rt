@@ -7,13 +7,7 @@ pub mod info;
 pub mod setup;
 pub mod version;
 
-use format::Range;
-
-// The range of an empty text.
-pub const NO_RANGE: Range = Range { start: 0, end: 0 };
-
-// the first 32-bit number that is negative
-const NEGATIVE: u32 = 2147483648;
+use bin::NEGATIVE;
 
 // A number less one, with wrapping, and not below 0.
 pub fn from_zero(v: u32) -> u32

@@ -57,18 +57,6 @@ fn page_at(s: &[u8], from: Place, v: u32) -> Place
     from
 }
 
-fn tempo_of(v: u32) -> Tempo
-    ensures { λ r. ⌜ r ≡ setup.tempoOf v ⌝ }
-{
-    if v < 1 {
-        return Tempo::NoTempo;
-    }
-    if v <= 999 {
-        return Tempo::Bpm(v as u16);
-    }
-    Tempo::NoTempo
-}
-
 fn hide_tempo_at(s: &[u8], from: Place, v: u32) -> Place
     ensures { λ r. ⌜ Reaches (setup.hideTempo v) (now (s .entry)) from tt r ⌝ }
 {
@@ -101,7 +89,7 @@ fn tempo_at(s: &[u8], from: Place, v: u32) -> SetupRead
         };
     };
     SetupRead {
-        tempo: tempo_of(tempo.value),
+        tempo: model::kinds::tempo_from(tempo.value),
         next,
     }
 }

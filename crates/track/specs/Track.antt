@@ -11,11 +11,10 @@ use Rattle.model.specs.declared.Clef.the-variants.{Treble, Bass, Percussion}
 use Rattle.model.specs.declared.Program.{Program}
 use Rattle.model.specs.declared.Program.the-variants.{NoProgram, Midi}
 use Rattle.format.specs.Text.{pick}
-use Rattle.format.specs.Prog.{Prog, ret, bind, whenLe, turns}
+use Rattle.format.specs.Prog.{Prog, ret, bind, whenLe, turns, has}
 use Rattle.format.specs.Fields.{u8, u32, skip, count, fixedString, intByteStringPast}
 use Rattle.curve.specs.Held.{held, wordHalf}
 use Rattle.song.specs.Info.{noRange, fromZero}
-use Rattle.header.specs.Header.{has}
 use Rattle.track.specs.declared.Sound.{Sound}
 use Rattle.track.specs.declared.Staff.{Staff}
 use Rattle.track.specs.declared.Strings.{Strings}

@@ -8,12 +8,12 @@ use bin::string::int_byte_string_past;
 use curve::held::capo_of;
 use curve::held::tuning_of;
 use format::Counted;
+use format::NO_RANGE;
 use format::Place;
 use format::Range;
 use header::has;
 use model::Clef;
 use model::Program;
-use song::NO_RANGE;
 use song::from_zero;
 
 // A track's strings: how many, and the keys of the open ones in the file's order, 0 past the last.

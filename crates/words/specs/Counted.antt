@@ -1,19 +1,18 @@
 -- A pass that only counts: of each beat the rows and members that it makes and the rooms that it needs. No table is changed, and
 -- nothing is remembered of a track but what it is played on. Assumes nothing.
 use Prim.Native.Nat.{ℕ, _+_, _*_}
-use mathlib.Core.Bool.{Bool, _&&_}
+use mathlib.Core.Bool.{Bool}
 use mathlib.Core.List.{List, [], _∷_}
-use lib.Dec.{eqb, ltb}
+use lib.Dec.{eqb}
 use Rattle.format.specs.Text.{pick}
 use Rattle.note.specs.declared.marks.GraceNote.{GraceNote}
 use Rattle.note.specs.declared.marks.GraceNote.the-variants.{NoGrace, Before}
-use Rattle.note.specs.Optional.{has}
 use Rattle.note.specs.Note.{NoteIs}
-use Rattle.note.specs.Notes.{stringBit}
 use Rattle.beat.specs.Beat.{BeatIs}
 use Rattle.score.specs.declared.Kept.{Kept}
 use Rattle.score.specs.declared.Tally.{Tally}
 use Rattle.score.specs.File.{Adding}
+use Rattle.score.specs.Sounding.{soundsOn}
 use Rattle.score.specs.Page.{Walk, bendRooms, hasText}
 use Rattle.words.specs.Words.{Words, partStride, boardFrom, wordPlus}
 
@@ -34,7 +33,7 @@ graceOf n = oneGrace (n .read .effects .grace)
 abbrev pub heard : (NoteIs → ℕ) → (bits strings i : ℕ) → List NoteIs → ℕ
 heard each bits strings i [] = 0
 heard each bits strings i (n ∷ ns) =
-    pick (has bits (stringBit i) && ltb i strings) (each n) 0 + heard each bits strings (i + 1) ns
+    pick (soundsOn strings bits i) (each n) 0 + heard each bits strings (i + 1) ns
 
 -- ---- what is counted of a beat
 

@@ -1,6 +1,6 @@
 -- By definition. Assumes nothing.
 use mathlib.Core.Path.{refl}
-use Rattle.header.specs.Header.{has}
+use Rattle.format.specs.Prog.{has}
 use Rattle.header.proofs.has.Statement.{statement}
 use Rattle.header.proofs.has.Tie as tie
 

@@ -1,6 +1,6 @@
 -- One after another. Assumes nothing.
 use Rattle.score.specs.Losses.{readingLosses}
-use Rattle.note.specs.Optional.{has}
+use Rattle.format.specs.Prog.{has}
 use Rattle.words.proofs.Reports.{reports-append}
 use borrow.Author.Needs.{needs}
 use Rattle.losses.proofs.reading_losses.Statement.{statement}

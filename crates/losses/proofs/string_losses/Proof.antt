@@ -1,6 +1,6 @@
 -- A note that is read, or none. Assumes nothing.
 use borrow.Author.Tests.{eq-eqb, ne-eqb}
-use Rattle.note.specs.Optional.{has}
+use Rattle.format.specs.Prog.{has}
 use Rattle.words.proofs.Reports.{reports-none}
 use borrow.Author.Needs.{needs}
 use Rattle.losses.proofs.string_losses.Statement.{statement}

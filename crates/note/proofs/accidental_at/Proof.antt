@@ -1,7 +1,7 @@
 -- One field after another. Assumes nothing.
 use borrow.Author.Needs.{needs}
 use Rattle.format.proofs.Rules.{reading}
-use Rattle.note.specs.Optional.{has}
+use Rattle.format.specs.Prog.{has}
 use Rattle.note.specs.Note.{accidental, percent}
 use Rattle.note.proofs.accidental_at.Statement.{statement}
 use Rattle.note.proofs.accidental_at.Tie as tie

@@ -1,7 +1,7 @@
 -- One field after another. Assumes nothing.
 use borrow.Author.Needs.{needs}
 use Rattle.format.proofs.Rules.{then}
-use Rattle.note.specs.Optional.{has}
+use Rattle.format.specs.Prog.{has}
 use Rattle.note.specs.Note.{noteBy, frettedByte, ownDuration}
 use Rattle.note.proofs.note_by.Statement.{statement}
 use Rattle.note.proofs.note_by.Tie as tie

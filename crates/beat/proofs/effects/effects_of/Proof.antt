@@ -1,6 +1,6 @@
 -- Test by test. Assumes nothing.
 use mathlib.Core.Path.{refl}
-use Rattle.note.specs.Optional.{has}
+use Rattle.format.specs.Prog.{has}
 use Rattle.beat.specs.Effects.{effectsOf}
 use Rattle.beat.proofs.effects.effects_of.Statement.{statement}
 use Rattle.beat.proofs.effects.effects_of.Tie as tie

@@ -1,6 +1,6 @@
 -- The parts of a head. Assumes nothing.
 use borrow.Author.Needs.{needs}
-use Rattle.note.specs.Optional.{has}
+use Rattle.format.specs.Prog.{has}
 use Rattle.beat.specs.Head.{headOf}
 use Rattle.beat.proofs.head.head_of.Statement.{statement}
 use Rattle.beat.proofs.head.head_of.Tie as tie

@@ -1,7 +1,7 @@
 -- One field after another. Assumes nothing.
 use borrow.Author.Needs.{needs}
 use Rattle.format.proofs.Rules.{reading}
-use Rattle.note.specs.Optional.{has}
+use Rattle.format.specs.Prog.{has}
 use Rattle.beat.specs.Head.{head, noHead, status, tuplet}
 use Rattle.beat.proofs.head.read_head.Statement.{statement}
 use Rattle.beat.proofs.head.read_head.Tie as tie

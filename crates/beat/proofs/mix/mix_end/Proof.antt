@@ -15,4 +15,4 @@ mix-end-spec =
     (λ c κs. search needs)
     (λ c κs. search needs)
     (λ c κs. search needs)
-    (λ c. rw (c .tempo-of .ensures) (search reading depth 8)))
+    (λ c. rw (c .tempo-from .ensures) (search reading depth 8)))

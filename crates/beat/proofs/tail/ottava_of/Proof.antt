@@ -1,6 +1,6 @@
 -- By the bits, in their order. Assumes nothing.
 use borrow.Author.Tests.{eq-eqb, ne-eqb}
-use Rattle.note.specs.Optional.{has}
+use Rattle.format.specs.Prog.{has}
 use Rattle.beat.specs.Tail.{ottavaOf}
 use Rattle.beat.proofs.tail.ottava_of.Statement.{statement}
 use Rattle.beat.proofs.tail.ottava_of.Tie as tie

@@ -1,7 +1,7 @@
 -- One field after another. Assumes nothing.
 use borrow.Author.Needs.{needs}
 use Rattle.format.proofs.Rules.{reading}
-use Rattle.note.specs.Optional.{has}
+use Rattle.format.specs.Prog.{has}
 use Rattle.beat.specs.Tail.{tail, tailByte}
 use Rattle.beat.proofs.tail.read_tail.Statement.{statement}
 use Rattle.beat.proofs.tail.read_tail.Tie as tie

@@ -1,6 +1,6 @@
 -- By its flag. Assumes nothing.
 use mathlib.Core.Path.{refl}
-use Rattle.note.specs.Optional.{has}
+use Rattle.format.specs.Prog.{has}
 use Rattle.draft.proofs.rows.value_of.Statement.{statement}
 use Rattle.draft.proofs.rows.value_of.Tie as tie
 

@@ -1,6 +1,6 @@
 -- A note that is read, or none. Assumes nothing.
 use borrow.Author.Tests.{eq-eqb, ne-eqb}
-use Rattle.note.specs.Optional.{has}
+use Rattle.format.specs.Prog.{has}
 use Rattle.words.specs.Words.{wordPlus}
 use borrow.Author.Needs.{needs}
 use Rattle.losses.proofs.rooms.string_room.Statement.{statement}

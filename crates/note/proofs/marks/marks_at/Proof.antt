@@ -1,7 +1,7 @@
 -- One field after another. Assumes nothing.
 use borrow.Author.Needs.{needs}
 use Rattle.format.proofs.Rules.{then, done}
-use Rattle.note.specs.Optional.{has}
+use Rattle.format.specs.Prog.{has}
 use Rattle.note.specs.Marks.{marks, trill}
 use Rattle.note.proofs.marks.marks_at.Statement.{statement}
 use Rattle.note.proofs.marks.marks_at.Tie as tie

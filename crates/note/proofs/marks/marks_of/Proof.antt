@@ -1,6 +1,6 @@
 -- Test by test. Assumes nothing.
 use mathlib.Core.Path.{refl}
-use Rattle.note.specs.Optional.{has}
+use Rattle.format.specs.Prog.{has}
 use Rattle.note.specs.Marks.{marksOf}
 use Rattle.note.proofs.marks.marks_of.Statement.{statement}
 use Rattle.note.proofs.marks.marks_of.Tie as tie

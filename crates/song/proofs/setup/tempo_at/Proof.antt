@@ -18,4 +18,4 @@ tempo-at-spec =
     (λ c. search needs)
     (λ c. search reading depth 10)
     (λ c κs. search needs)
-    (λ c. rw (c .tempo-of .ensures) (search reading depth 10)))
+    (λ c. rw (c .tempo-from .ensures) (search reading depth 10)))

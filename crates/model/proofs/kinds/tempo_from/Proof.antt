@@ -1,13 +1,13 @@
 -- By the tests. Assumes nothing.
 use borrow.Author.Needs.{needs}
 use borrow.Author.Tests.{le-leb, lt-leb}
-use Rattle.song.specs.Setup.{tempoOf}
-use Rattle.song.proofs.setup.tempo_of.Statement.{statement}
-use Rattle.song.proofs.setup.tempo_of.Tie as tie
+use Rattle.model.specs.Kinds.{tempoFrom}
+use Rattle.model.proofs.kinds.tempo_from.Statement.{statement}
+use Rattle.model.proofs.kinds.tempo_from.Tie as tie
 
-pub tempo-of-spec : {M : Type 1} → statement M
-unfolding tempoOf
-tempo-of-spec =
+pub tempo-from-spec : {M : Type 1} → statement M
+unfolding tempoFrom
+tempo-from-spec =
     tie.close
     (tie.spec
     (λ c. simp (lt-leb 1 _ (c .if1 .taken)))
