@@ -2,7 +2,7 @@
 // entered in the tables.
 pub mod sounding; // which notes sound, in the order of their keys
 pub mod member; // the members of a row
-mod voicing; // what the notes of a chord give its row
+pub mod voicing; // what the notes of a chord give its row
 pub mod played; // technique and its text
 pub mod marks; // articulations
 pub mod rows; // the rows of a beat

@@ -35,7 +35,7 @@ const NO_MEMBER: Member = Member {
     finger: Finger::NoFinger,
 };
 
-const NO_MEMBERS: Members = Members {
+pub(crate) const NO_MEMBERS: Members = Members {
     list: [NO_MEMBER; 7],
     count: 0,
 };

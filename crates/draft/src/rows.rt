@@ -10,7 +10,7 @@ ghost use Rattle.draft.specs.Meant.{chordIn, draftIn};
 ghost use Rattle.draft.specs.Steps.{anyOf, gracesOf, gracedBy, gracedIf, techniqueBy};
 use crate::Chord;
 use crate::Draft;
-use crate::Members;
+use crate::member::NO_MEMBERS;
 use crate::member::grace_members_of;
 use crate::member::members_of;
 use crate::played::NO_BEND;
@@ -23,20 +23,16 @@ use curve::level::Level;
 use curve::level::LevelAfter;
 use curve::level::level_after;
 use curve::level::no_chord;
-use format::Range;
+use format::NO_RANGE;
 use model::Arpeggio;
 use model::Duration;
-use model::Finger;
-use model::Member;
 use model::NoteHead;
 use model::NoteValue;
 use model::Ottava;
 use model::Place;
 use model::RowKind;
-use model::TabPosition;
 use model::Technique;
 use model::TechniqueText;
-use model::Ties;
 use model::Tuplet;
 use model::marks::none_added;
 use note::NO_NOTE;
@@ -58,21 +54,6 @@ const NO_GRACES: Graces = Graces {
     text: TechniqueText::NoText,
     technique: Technique::NoTechnique,
     head: NoteHead::Normal,
-};
-
-const NO_MEMBERS: Members = Members {
-    list: [Member {
-        key: 0,
-        flat: false,
-        position: TabPosition::OffTablature,
-        ghosted: false,
-        ties: Ties {
-            end: false,
-            start: false,
-        },
-        finger: Finger::NoFinger,
-    }; 7],
-    count: 0,
 };
 
 // ---- the row of a beat
@@ -315,6 +296,6 @@ pub fn grace_row(
         arpeggio: Arpeggio::NoArpeggio,
         head,
         ottava: Ottava::NoOttava,
-        chord: Range { start: 0, end: 0 },
+        chord: NO_RANGE,
     }
 }

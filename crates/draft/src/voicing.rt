@@ -29,7 +29,8 @@ pub(crate) struct Voiced {
     pub head: NoteHead,
 }
 
-pub(crate) fn size_of(chord: Chord) -> usize
+// How many notes a chord has: a count past seven is seven.
+pub fn size_of(chord: Chord) -> usize
     ensures { λ r. ⌜ (r ≡ sizeOf chord) × (r ≤ 7) ⌝ }
 {
     if chord.count <= 7 { chord.count } else { 7 }

@@ -22,6 +22,7 @@ use beat::Beat;
 use beat::effects::BeatEffects;
 use beat::mix::Mix;
 use draft::Chord;
+use draft::voicing::size_of;
 use model::Loss;
 use note::LeftHand;
 use note::NO_NOTE;
@@ -163,21 +164,10 @@ fn built_losses(losses: [u32; 17], note: NoteRead) -> [u32; 17]
     report_if(losses, is_beyond(hand), Loss::UnsupportedFingering)
 }
 
-// How many notes a chord has: a count past seven is seven.
-fn size(chord: Chord) -> usize
-    ensures { λ r. ⌜ r ≡ length (take (chord .count) (chord .notes)) ⌝ }
-    ensures { λ r. ⌜ r ≤ 7 ⌝ }
-{
-    if chord.count < 7 {
-        return chord.count;
-    }
-    7
-}
-
 fn member_losses(s: &[u8], losses: [u32; 17], notes: [Note; 7], chord: Chord) -> [u32; 17]
     ensures { λ r. ⌜ r ≡ reports (rule.memberLosses (chordIn (now (s .entry)) notes chord)) losses ⌝ }
 {
-    let n = size(chord);
+    let n = size_of(chord);
     let mut counts = losses;
     let mut i: usize = 0;
     while i < n {
@@ -194,7 +184,7 @@ fn member_losses(s: &[u8], losses: [u32; 17], notes: [Note; 7], chord: Chord) ->
 fn grace_losses(s: &[u8], losses: [u32; 17], notes: [Note; 7], chord: Chord) -> [u32; 17]
     ensures { λ r. ⌜ r ≡ reports (rule.graceLosses (graces (chordIn (now (s .entry)) notes chord))) losses ⌝ }
 {
-    let n = size(chord);
+    let n = size_of(chord);
     let mut counts = losses;
     let mut i: usize = 0;
     while i < n {
@@ -219,7 +209,7 @@ fn building_losses(s: &[u8], losses: [u32; 17], beat: Beat, chord: Chord) -> [u3
     let losses = grace_losses(s, losses, notes, chord);
     report_if(
         losses,
-        (size(chord) != 0) & effects.artificial_harmonic,
+        (size_of(chord) != 0) & effects.artificial_harmonic,
         Loss::HarmonicType,
     )
 }

@@ -10,7 +10,7 @@ use Rattle.score.specs.Members.{graces}
 use Rattle.score.specs.Losses.{graceLosses}
 use Rattle.draft.specs.Chord.{silent}
 use Rattle.draft.specs.Meant.{struckIn, chordIn}
-use Rattle.draft.specs.Voicing.{noStruck}
+use Rattle.draft.specs.Voicing.{sizeOf, noStruck}
 use Rattle.draft.proofs.Notes.{past-strings}
 use Rattle.words.specs.Reports.{reports}
 use Rattle.words.proofs.Reports.{reports-none}
@@ -38,7 +38,7 @@ here c =
     ⊎-elim (λ w. w .2) (λ w. w .1 ∙ past-strings (g .args .t3) _ (g .good .1 .1 .0 .1 .0 .1) (w .0 .left)) (c .if1 .came)
 
 pub grace-losses-spec : {M : Type 1} → statement M
-unfolding chordIn
+unfolding chordIn sizeOf
 grace-losses-spec =
     tie.close
     (tie.spec
@@ -61,8 +61,8 @@ grace-losses-spec =
     let a = o .before .before .before .args in (
       search needs,
       rw (c .report-if .ensures, c .before .on-beat .ensures, here n)
-          (sym (graces-next (a .s .now) (a .t3) (a .t4) noStruck (o .loop .i) (o .loop .counts) (omega (arith, o .before .size .ensures .0))) ∙ o .loop .inv .1),
+          (sym (graces-next (a .s .now) (a .t3) (a .t4) noStruck (o .loop .i) (o .loop .counts) (omega (arith, o .before .size-of .ensures .0))) ∙ o .loop .inv .1),
     ))
     (λ c.
     let a = c .before .before .before .before .args in
-    rw (drop-of-length-le (take (a .t4 .count) (a .t4 .notes)) {i = c .before .loop .i} (omega (arith, c .before .before .size .ensures .0)), reports-none) at (c .before .loop .inv .1)))
+    rw (drop-of-length-le (take (a .t4 .count) (a .t4 .notes)) {i = c .before .loop .i} (omega (arith, c .before .before .size-of .ensures .0)), reports-none) at (c .before .loop .inv .1)))

@@ -9,7 +9,7 @@ use Rattle.note.specs.Marks.{noMarks}
 use Rattle.score.specs.Losses.{memberLosses}
 use Rattle.draft.specs.Chord.{silent}
 use Rattle.draft.specs.Meant.{struckIn, chordIn}
-use Rattle.draft.specs.Voicing.{noStruck}
+use Rattle.draft.specs.Voicing.{sizeOf, noStruck}
 use Rattle.draft.proofs.Notes.{past-strings}
 use Rattle.words.specs.Reports.{reports}
 use Rattle.words.proofs.Reports.{reports-none}
@@ -37,7 +37,7 @@ here c =
     ⊎-elim (λ w. w .2) (λ w. w .1 ∙ past-strings (g .args .t3) _ (g .good .1 .1 .0 .1 .0 .1) (w .0 .left)) (c .if1 .came)
 
 pub member-losses-spec : {M : Type 1} → statement M
-unfolding chordIn
+unfolding chordIn sizeOf
 member-losses-spec =
     tie.close
     (tie.spec
@@ -59,8 +59,8 @@ member-losses-spec =
     let a = o .before .before .before .args in (
       search needs,
       rw (c .built-losses .ensures, here n)
-          (sym (members-next (a .s .now) (a .t3) (a .t4) noStruck (o .loop .i) (o .loop .counts) (omega (arith, o .before .size .ensures .0))) ∙ o .loop .inv .1),
+          (sym (members-next (a .s .now) (a .t3) (a .t4) noStruck (o .loop .i) (o .loop .counts) (omega (arith, o .before .size-of .ensures .0))) ∙ o .loop .inv .1),
     ))
     (λ c.
     let a = c .before .before .before .before .args in
-    rw (drop-of-length-le (take (a .t4 .count) (a .t4 .notes)) {i = c .before .loop .i} (omega (arith, c .before .before .size .ensures .0)), reports-none) at (c .before .loop .inv .1)))
+    rw (drop-of-length-le (take (a .t4 .count) (a .t4 .notes)) {i = c .before .loop .i} (omega (arith, c .before .before .size-of .ensures .0)), reports-none) at (c .before .loop .inv .1)))
