@@ -1,11 +1,13 @@
 // The name of a beat's chord, without the diagram around it, and the text of a beat.
-ghost use Rattle.format.specs.Text.{noText, textIn};
-ghost use Rattle.format.specs.Place.{Reaches, Gives};
+ghost use Rattle.format.specs.Text.{textIn};
+ghost use Rattle.format.specs.Place.{Reaches};
 ghost use Rattle.beat.specs.Chord as format;
+ghost use Rattle.beat.specs.Words as meaning;
+use crate::places;
+use crate::places::Beat;
+use crate::places::put_range;
 use bin::string::Kept;
-use format::NO_RANGE;
 use format::Place;
-use format::Range;
 
 // A name of fixed width, between the bytes of its diagram.
 fn diagram_name(s: &[u8], from: Place, lead: usize, width: usize, rest: usize) -> Kept
@@ -73,35 +75,27 @@ fn any_chord_name(s: &[u8], from: Place, v: u32) -> Kept
 }
 
 // The chord's name, where the beat's flags say that it has a chord.
-pub fn read_chord_name(s: &[u8], from: Place, v: u32, flags: u8) -> Kept
-    ensures { λ r. ⌜ Gives (format.chordName v flags) noText (now (s .entry)) from (textIn (now (s .entry)) (r .range)) (r .next) ⌝ }
+pub(crate) fn chord_at(s: &[u8], from: Place, v: u32, flags: u8, b: &mut Beat) -> Place
+    ensures { λ r. ⌜ meaning.Stores (format.chordName v flags) (now (s .entry)) from meaning.CHORD-START (now (b .entry)) (now (b .exit)) (textIn (now (s .entry)) (meaning.chordIn flags (now (b .exit)))) r ⌝ }
 {
     if flags & 0x02 == 0 {
-        return Kept {
-            range: NO_RANGE,
-            next: from,
-        };
+        return from;
     }
     let name = any_chord_name(s, from, v);
-    let next = name.next;
-    let Place::At(_) = next else {
-        return Kept {
-            range: NO_RANGE,
-            next,
-        };
-    };
-    name
+    let range = name.range;
+    put_range(b, places::CHORD_START, range);
+    name.next
 }
 
 // The beat's text, where its flags say that it has one.
-pub fn read_text(s: &[u8], from: Place, flags: u8) -> Kept
-    ensures { λ r. ⌜ Gives (format.beatText flags) noText (now (s .entry)) from (textIn (now (s .entry)) (r .range)) (r .next) ⌝ }
+pub(crate) fn text_at(s: &[u8], from: Place, flags: u8, b: &mut Beat) -> Place
+    ensures { λ r. ⌜ meaning.Stores (format.beatText flags) (now (s .entry)) from meaning.TEXT-START (now (b .entry)) (now (b .exit)) (textIn (now (s .entry)) (meaning.textRange flags (now (b .exit)))) r ⌝ }
 {
     if flags & 0x04 == 0 {
-        return Kept {
-            range: NO_RANGE,
-            next: from,
-        };
+        return from;
     }
-    bin::string::int_byte_string_unused(s, from)
+    let text = bin::string::int_byte_string_unused(s, from);
+    let range = text.range;
+    put_range(b, places::TEXT_START, range);
+    text.next
 }

@@ -1,13 +1,18 @@
-// A beat's head: flags, whether it is kept, its duration and tuplet.
-ghost use mathlib.Core.Path.{_≡_};
-ghost use Rattle.format.specs.Place.{Gives};
+// A beat's head: flags, status, duration and tuplet.
+ghost use Prim.Native.Nat.{_+_};
+ghost use Rattle.format.specs.Padded.{Near};
+ghost use Rattle.note.specs.Words.{byteIn, Fills};
 ghost use Rattle.beat.specs.Head as format;
+ghost use Rattle.beat.specs.Words as meaning;
+use crate::places;
+use crate::places::Beat;
+use crate::places::put;
+use crate::places::store;
 use format::Place;
 use model::Duration;
 use model::Tuplet;
-use note::optional::byte_if;
-use note::optional::word_if;
 
+// A head, as the format's definitions have it.
 pub struct Head {
     pub flags: u8,
     pub kept: bool,
@@ -15,59 +20,51 @@ pub struct Head {
     pub tuplet: Tuplet,
 }
 
-pub struct HeadRead {
-    pub head: Head,
-    pub next: Place,
-}
-
-pub(crate) const NO_HEAD: Head = Head {
-    flags: 0,
-    kept: false,
-    duration: Duration::Quarter,
-    tuplet: Tuplet::NoTuplet,
-};
-
-fn tuplet_of(actual: u32) -> Tuplet
-    ensures { λ r. ⌜ r ≡ format.tupletOf actual ⌝ }
+fn status_at(s: &[u8], at: usize, flags: u8, b: &mut Beat) -> usize
+    requires { ⌜ Near 1 at ⌝ }
+    ensures { λ r. ⌜ Fills (format.status flags) 1 (now (s .entry)) at meaning.STATUS (now (b .entry)) (now (b .exit)) (byteIn (now (b .exit)) meaning.STATUS) r ⌝ }
 {
-    match actual {
-        3 => Tuplet::Ratio(3, 2),
-        5..=7 => Tuplet::Ratio(actual as u8, 4),
-        9..=13 => Tuplet::Ratio(actual as u8, 8),
-        _ => Tuplet::NoTuplet,
+    if flags & 0x40 == 0 {
+        put(b, places::STATUS, 0x02);
+        return at;
     }
+    put(b, places::STATUS, bin::ahead::byte(s, at));
+    at + 1
 }
 
-fn head_of(flags: u8, status: u8, code: u8, actual: u32) -> Head
-    ensures { λ r. ⌜ r ≡ format.headOf flags status code actual ⌝ }
+fn tuplet_at(s: &[u8], at: usize, flags: u8, b: &mut Beat) -> usize
+    requires { ⌜ Near 4 at ⌝ }
+    ensures { λ r. ⌜ Fills (format.tuplet flags) 4 (now (s .entry)) at meaning.TUPLET (now (b .entry)) (now (b .exit)) (meaning.numberIn (now (b .exit)) meaning.TUPLET) r ⌝ }
 {
-    Head {
-        flags,
-        kept: status & 0x02 != 0,
-        duration: Duration::from_code(code),
-        tuplet: tuplet_of(actual),
+    if flags & 0x20 == 0 {
+        store(b, places::TUPLET, 0);
+        return at;
     }
+    let actual = bin::ahead::four_bytes(s, at);
+    store(b, places::TUPLET, actual as usize);
+    at + 4
 }
 
-pub fn read_head(s: &[u8], from: Place) -> HeadRead
-    ensures { λ r. ⌜ Gives format.head format.noHead (now (s .entry)) from (r .head) (r .next) ⌝ }
+// What stands behind the flags.
+fn head_end(s: &[u8], at: usize, flags: u8, b: &mut Beat) -> usize
+    requires { ⌜ Near 6 at ⌝ }
+    ensures { λ r. ⌜ Fills (meaning.headEnd flags) 6 (now (s .entry)) at meaning.STATUS (now (b .entry)) (now (b .exit)) (meaning.headWith flags (now (b .exit))) r ⌝ }
 {
-    let flags = bin::u8_at(s, from);
-    let at = flags.next;
-    let status = byte_if(s, at, flags.value & 0x40 != 0, 0x02);
-    let at = status.next;
-    let code = bin::u8_at(s, at);
-    let at = code.next;
-    let actual = word_if(s, at, flags.value & 0x20 != 0, 0);
-    let next = actual.next;
-    let Place::At(_) = next else {
-        return HeadRead {
-            head: NO_HEAD,
-            next,
-        };
+    let at = status_at(s, at, flags, b);
+    put(b, places::DURATION, bin::ahead::byte(s, at));
+    tuplet_at(s, at + 1, flags, b)
+}
+
+// Its fields are read to the last, past the end of the file as zeros: where they end says whether all were there.
+pub(crate) fn head_at(s: &[u8], from: Place, b: &mut Beat) -> Place
+    ensures { λ r. ⌜ meaning.Stores format.head (now (s .entry)) from meaning.FLAGS (now (b .entry)) (now (b .exit)) (meaning.headIn (now (b .exit))) r ⌝ }
+{
+    let first = bin::u8_at(s, from);
+    let next = first.next;
+    let Place::At(at) = next else {
+        return next;
     };
-    HeadRead {
-        head: head_of(flags.value, status.value, code.value, actual.value),
-        next,
-    }
+    let flags = first.value;
+    put(b, places::FLAGS, flags);
+    bin::ahead::reached(s, head_end(s, at, flags, b))
 }

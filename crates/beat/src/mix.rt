@@ -1,9 +1,15 @@
 // The mix table of a beat: of its values only whether one is given goes on, and the tempo.
 ghost use mathlib.Core.Path.{_≡_};
-ghost use Rattle.format.specs.Place.{Reaches, Gives};
+ghost use mathlib.Core.Bool.{true};
+ghost use Rattle.format.specs.Place.{Reaches};
 ghost use Rattle.beat.specs.Mix as format;
+ghost use Rattle.beat.specs.Words as meaning;
+use crate::places;
+use crate::places::Beat;
+use crate::places::store;
 use format::Place;
 use model::Tempo;
+use model::kinds::flag_word;
 use note::optional::skip_if;
 
 // Whether each of three values of the mix table is 0 or more.
@@ -13,15 +19,11 @@ struct Signs {
     c: bool,
 }
 
+// What goes on of a mix table, as the format's definitions have it.
 pub struct Mix {
     pub tempo: Tempo,
     pub wah_lost: bool,
     pub change_lost: bool,
-}
-
-pub struct MixRead {
-    pub mix: Mix,
-    pub next: Place,
 }
 
 struct SignRead {
@@ -33,12 +35,6 @@ struct SignsRead {
     signs: Signs,
     next: Place,
 }
-
-pub(crate) const NO_MIX: Mix = Mix {
-    tempo: Tempo::NoTempo,
-    wah_lost: false,
-    change_lost: false,
-};
 
 fn sign_at(s: &[u8], from: Place) -> SignRead
     ensures { λ r. ⌜ Reaches format.sign (now (s .entry)) from (r .given) (r .next) ⌝ }
@@ -114,21 +110,17 @@ fn mix_strings_past(s: &[u8], from: Place, v: u32) -> Place
     bin::string::int_byte_string_past(s, at)
 }
 
-fn mix_end(s: &[u8], from: Place, v: u32, changed: bool, tempo: u32) -> MixRead
-    ensures { λ r. ⌜ Reaches (format.mixEnd v changed tempo) (now (s .entry)) from (r .mix) (r .next) ⌝ }
+// The tempo as the file has it, and the two losses: 1 for one, else 0.
+fn mix_end(s: &[u8], from: Place, v: u32, changed: bool, tempo: u32, b: &mut Beat) -> Place
+    ensures { λ r. ⌜ meaning.Stores (format.mixEnd v changed tempo) (now (s .entry)) from meaning.TEMPO (now (b .entry)) (now (b .exit)) (meaning.mixBy true (now (b .exit))) r ⌝ }
 {
     let at = tempo_end(s, from, v, tempo);
     let wah = wah_at(s, skip_if(s, at, 400 <= v, 1), v);
+    store(b, places::TEMPO, tempo as usize);
+    store(b, places::WAH, flag_word(wah.given) as usize);
+    store(b, places::CHANGE, flag_word(changed) as usize);
     let at = wah.next;
-    let next = mix_strings_past(s, at, v);
-    MixRead {
-        mix: Mix {
-            tempo: model::kinds::tempo_from(tempo),
-            wah_lost: wah.given,
-            change_lost: changed,
-        },
-        next,
-    }
+    mix_strings_past(s, at, v)
 }
 
 fn any_given(instrument: bool, x: Signs, y: Signs) -> bool
@@ -137,17 +129,25 @@ fn any_given(instrument: bool, x: Signs, y: Signs) -> bool
     instrument | (x.a | x.b | x.c) | (y.a | y.b | y.c)
 }
 
-fn mix_tempo(s: &[u8], from: Place, v: u32, instrument: bool, x: Signs, y: Signs) -> MixRead
-    ensures { λ r. ⌜ Reaches (format.mixTempo v instrument x y) (now (s .entry)) from (r .mix) (r .next) ⌝ }
+fn mix_tempo(
+    s: &[u8],
+    from: Place,
+    v: u32,
+    instrument: bool,
+    x: Signs,
+    y: Signs,
+    b: &mut Beat,
+) -> Place
+    ensures { λ r. ⌜ meaning.Stores (format.mixTempo v instrument x y) (now (s .entry)) from meaning.TEMPO (now (b .entry)) (now (b .exit)) (meaning.mixBy true (now (b .exit))) r ⌝ }
 {
     let tempo = bin::u32_at(s, tempo_name_past(s, from, v));
     let at = tempo.next;
     let at = three_durations(s, three_durations(s, at, x), y);
-    mix_end(s, at, v, any_given(instrument, x, y), tempo.value)
+    mix_end(s, at, v, any_given(instrument, x, y), tempo.value, b)
 }
 
-fn mix_table(s: &[u8], from: Place, v: u32) -> MixRead
-    ensures { λ r. ⌜ Reaches (format.mixTable v) (now (s .entry)) from (r .mix) (r .next) ⌝ }
+fn mix_table(s: &[u8], from: Place, v: u32, b: &mut Beat) -> Place
+    ensures { λ r. ⌜ meaning.Stores (format.mixTable v) (now (s .entry)) from meaning.TEMPO (now (b .entry)) (now (b .exit)) (meaning.mixBy true (now (b .exit))) r ⌝ }
 {
     let instrument = sign_at(s, from);
     let at = instrument.next;
@@ -157,23 +157,15 @@ fn mix_table(s: &[u8], from: Place, v: u32) -> MixRead
     let at = second.next;
     let x = first.signs;
     let y = second.signs;
-    mix_tempo(s, at, v, instrument.given, x, y)
+    mix_tempo(s, at, v, instrument.given, x, y, b)
 }
 
 // The mix table, where the beat's flags say that it has one.
-pub fn read_mix_table(s: &[u8], from: Place, v: u32, flags: u8) -> MixRead
-    ensures { λ r. ⌜ Gives (format.mix v flags) format.noMix (now (s .entry)) from (r .mix) (r .next) ⌝ }
+pub(crate) fn mix_at(s: &[u8], from: Place, v: u32, flags: u8, b: &mut Beat) -> Place
+    ensures { λ r. ⌜ meaning.Stores (format.mix v flags) (now (s .entry)) from meaning.TEMPO (now (b .entry)) (now (b .exit)) (meaning.mixIn flags (now (b .exit))) r ⌝ }
 {
     if flags & 0x10 == 0 {
-        return MixRead {
-            mix: NO_MIX,
-            next: from,
-        };
+        return from;
     }
-    let read = mix_table(s, from, v);
-    let next = read.next;
-    let Place::At(_) = next else {
-        return MixRead { mix: NO_MIX, next };
-    };
-    read
+    mix_table(s, from, v, b)
 }

@@ -1,55 +1,24 @@
 // The tail of a beat: its ottava.
-ghost use mathlib.Core.Path.{_≡_};
-ghost use Rattle.format.specs.Place.{Gives};
-ghost use Rattle.model.specs.declared.Ottava.the-variants.{NoOttava};
+ghost use Prim.Native.Nat.{_+_};
+ghost use Rattle.format.specs.Padded.{Near};
+ghost use Rattle.note.specs.Words.{Fills};
 ghost use Rattle.beat.specs.Tail as format;
-use format::Place;
-use model::Ottava;
-use note::optional::skip_if;
+ghost use Rattle.beat.specs.Words as meaning;
+use crate::places;
+use crate::places::Beat;
+use crate::places::pass_if;
+use crate::places::store;
 
-pub struct OttavaRead {
-    pub ottava: Ottava,
-    pub next: Place,
-}
-
-fn ottava_of(flags: u32) -> Ottava
-    ensures { λ r. ⌜ r ≡ format.ottavaOf flags ⌝ }
-{
-    if flags & 0x10 != 0 {
-        return Ottava::Va8;
-    }
-    if flags & 0x20 != 0 {
-        return Ottava::Vb8;
-    }
-    if flags & 0x40 != 0 {
-        return Ottava::Ma15;
-    }
-    if flags & 0x100 != 0 {
-        return Ottava::Mb15;
-    }
-    Ottava::NoOttava
-}
-
-pub fn read_tail(s: &[u8], from: Place, v: u32) -> OttavaRead
-    ensures { λ r. ⌜ Gives (format.tail v) NoOttava (now (s .entry)) from (r .ottava) (r .next) ⌝ }
+// No flags stand there before v500.
+pub(crate) fn tail_at(s: &[u8], at: usize, v: u32, b: &mut Beat) -> usize
+    requires { ⌜ Near 3 at ⌝ }
+    ensures { λ r. ⌜ Fills (format.tail v) 3 (now (s .entry)) at meaning.OTTAVA (now (b .entry)) (now (b .exit)) (meaning.ottavaIn (now (b .exit))) r ⌝ }
 {
     if v < 500 {
-        return OttavaRead {
-            ottava: Ottava::NoOttava,
-            next: from,
-        };
+        store(b, places::OTTAVA, 0);
+        return at;
     }
-    let flags = bin::u16_at(s, from);
-    let at = flags.next;
-    let next = skip_if(s, at, flags.value & 0x800 != 0, 1);
-    let Place::At(_) = next else {
-        return OttavaRead {
-            ottava: Ottava::NoOttava,
-            next,
-        };
-    };
-    OttavaRead {
-        ottava: ottava_of(flags.value),
-        next,
-    }
+    let flags = bin::ahead::two_bytes(s, at);
+    store(b, places::OTTAVA, flags as usize);
+    pass_if(at + 2, flags & 0x800 != 0, 1)
 }

@@ -1,7 +1,6 @@
-pub mod Notes
+pub mod Sets
 pub mod Placing
 pub mod Hearing
-pub mod Left
-pub mod Gathering
 pub mod Steps
 pub mod Walks
+pub mod Quiet

@@ -4,7 +4,6 @@ use native.Mathlib.Omega.{arith}
 use mathlib.Core.Path.{_≡_, refl, sym, _∙_}
 use mathlib.Core.Bool.{Bool, true, false}
 use mathlib.Core.List.{List, [], _∷_, _++_, append-assoc, append-nil}
-use mathlib.Core.Logic.{_⊎_, ⊎-elim}
 use borrow.Author.Tests.{lt-ltb}
 use lib.Dec.{ltb, eqb}
 use Rattle.format.specs.Text.{pick}
@@ -27,9 +26,9 @@ use Rattle.note.specs.Points.{pointsAt, bendIn}
 use Rattle.note.specs.Note.{NoteIs}
 use Rattle.score.specs.Members.{Keyed, Graced}
 use Rattle.score.specs.Rows.{Played, bent, withText, withBend, withHammer, withSlide}
-use Rattle.score.specs.Rows.{noteOf, only, beatMarks, addAll, marksOfNotes, marksOf, levels}
+use Rattle.score.specs.Rows.{noteOf, beatMarks, addAll, marksOfNotes, marksOf, levels}
 use Rattle.score.specs.Rows.{graceTechnique, graceText, graceHead}
-use Rattle.draft.specs.declared.rows.Graces.{Graces}
+use Rattle.draft.specs.declared.graces.Graces.{Graces}
 use Rattle.draft.specs.Steps.{playedBy, addMarks, anyOf, gracesOf}
 
 -- ---- technique and its text
@@ -54,12 +53,6 @@ pub add-both : (m : Articulations) (xs ys : List Articulation) → addMarks m (x
 unfolding addMarks
 add-both m [] ys = refl
 add-both m (a ∷ xs) ys = add-both (addMark a m) xs ys
-
--- a mark that is added where it is given, by either way
-pub mark-if : {A B : Type 0} {given : Bool} {m r : Articulations} (a : Articulation) → A ⊎ B →
-    (A → (given ≡ true) × (r ≡ addMark a m)) → (B → (given ≡ false) × (r ≡ m)) → r ≡ addMarks m (only given a)
-unfolding addMarks
-mark-if a ways taken left = ⊎-elim (λ w. rw (taken w .0) (taken w .1)) (λ w. rw (left w .0) (left w .1)) ways
 
 -- adding to what a row holds is adding to the list
 add-all : (xs l : List Articulation) → Distinct l → addMarks (packed l) xs ≡ packed (addAll l xs)
@@ -86,23 +79,6 @@ levels-onto ms (x ∷ xs) =
 
 pub levels-after : (xs : List Keyed) → levelsAfter (chordOf []) xs ≡ chordOf (levels xs)
 levels-after xs = levels-onto [] xs
-
--- ---- the head
-
--- of the notes before, then of those that are left
-abbrev pub headAnd : NoteHead → NoteHead → NoteHead
-headAnd Normal h = h
-headAnd Cross h = Cross
-
-pub head-one : (g : NoteHead) (dead : Bool) (h : NoteHead) → headAnd g (pick dead Cross h) ≡ headAnd (pick dead Cross g) h
-head-one Normal true h = refl
-head-one Normal false h = refl
-head-one Cross true h = refl
-head-one Cross false h = refl
-
-pub head-none : (g : NoteHead) → headAnd g Normal ≡ g
-head-none Normal = refl
-head-none Cross = refl
 
 -- ---- graces
 

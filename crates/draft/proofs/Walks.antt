@@ -1,133 +1,90 @@
 -- Walks over a chord: with what came before, the notes that are left give what all of them give. Assumes nothing.
-use Prim.Native.Nat.{ℕ, _+_, _<_, _≤_}
+use Prim.Native.Nat.{ℕ, _+_, _<_}
 use native.Mathlib.Omega.{arith}
-use mathlib.Core.Path.{_≡_, refl, sym, _∙_}
-use mathlib.Core.Bool.{Bool}
-use mathlib.Core.List.{List, [], _++_, append-assoc}
-use Rattle.format.specs.Text.{pick}
+use native.Mathlib.Numerals.{add-one}
+use mathlib.Core.Path.{_≡_, refl, sym}
+use mathlib.Core.Bool.{Bool, true, false}
+use mathlib.Core.List.{List, [], _∷_, _++_, map, append-assoc}
+use lib.ListN.{length, getD, drop}
+use lib.Seq.{drop-cons}
 use Rattle.model.specs.declared.Articulations.{Articulations}
-use Rattle.model.specs.declared.NoteHead.{NoteHead}
-use Rattle.model.specs.declared.NoteHead.the-variants.{Normal, Cross}
+use Rattle.model.specs.declared.NoteHead.the-variants.{Cross}
 use Rattle.model.specs.declared.Place.{Place}
 use Rattle.curve.specs.declared.level.ChordLevel.{ChordLevel}
-use Rattle.model.specs.Marks.{packed, noMarks}
-use Rattle.curve.specs.Level.{chordOf, chordWith}
+use Rattle.curve.specs.declared.level.NoteLevel.{NoteLevel}
+use Rattle.curve.specs.Level.{chordWith}
 use Rattle.beat.specs.declared.effects.BeatEffects.{BeatEffects}
 use Rattle.note.specs.declared.marks.GraceNote.{GraceNote}
 use Rattle.note.specs.declared.marks.GraceNote.the-variants.{NoGrace, Before}
-use Rattle.note.specs.declared.Note.{Note}
-use Rattle.note.specs.Note.{NoteIs}
+use Rattle.note.specs.Words.{start, noteIn, readIn}
 use Rattle.beat.specs.Beat.{BeatIs}
 use Rattle.score.specs.declared.Fretboard.{Fretboard}
-use Rattle.score.specs.Members.{graces, gracedAfter}
-use Rattle.score.specs.Rows.{Played, played, playedWith, noPlay, noteMarks, beatMarks, marksOfNotes, marksOf, headOf, levels}
+use Rattle.score.specs.Members.{graces, gracedAfter, memberOf}
+use Rattle.score.specs.Rows.{Played, played, playedWith, noteMarks, beatMarks, marksOfNotes, headOf}
 use Rattle.score.specs.Rows.{restRow, chordRow, beatRow}
-use Rattle.draft.specs.declared.Chord.{Chord}
-use Rattle.draft.specs.declared.rows.Graces.{Graces}
-use Rattle.draft.specs.Meant.{chordIn}
-use Rattle.draft.specs.Voicing.{sizeOf, keyedAt, noteAt}
+use Rattle.draft.specs.declared.Draft.{Draft}
+use Rattle.draft.specs.declared.graces.Graces.{Graces}
+use Rattle.draft.specs.Chord.{stringOf, keyedIn, chordIn}
+use Rattle.draft.specs.Meant.{draftIn}
 use Rattle.draft.specs.Steps.{playedBy, addMarks, gracedBy, gracedIf}
-use Rattle.draft.proofs.Left.{chordFrom, from-start, from-next, from-end}
-use Rattle.draft.proofs.Steps.{add-both, marks-packed, levelsAfter, levels-after, headAnd, head-one, head-none, gracesAfter}
+use Rattle.draft.proofs.Steps.{add-both, levelsAfter, gracesAfter}
 
-module _ (s : List ℕ) (notes : List Note) (c : Chord) (i : ℕ) where
-  module _ (n : NoteIs) (is : n ≡ noteAt s notes c i) where
-    played-next : (p q a : Played) → q ≡ playedBy n p → played p (chordFrom s notes c i) ≡ a
-        → i < sizeOf c → played q (chordFrom s notes c (i + 1)) ≡ a
+module _ (s : List ℕ) (v : ℕ) (notes chord : List ℕ) (i : ℕ) (inside : i < length chord) where
+  pub chord-next : chordIn s v notes (drop i chord)
+      ≡ keyedIn s v notes (getD chord i 0) ∷ chordIn s v notes (drop (i + 1) chord)
+  unfolding chordIn
+  chord-next = rw (drop-cons chord i 0 inside, add-one i)
+
+  module _ {string : ℕ} (at : string ≡ stringOf (getD chord i 0)) where
+    pub next-played : (p : Played) {q : Played} → q ≡ playedBy (noteIn s v notes (start string)) p
+        → played q (chordIn s v notes (drop (i + 1) chord)) ≡ played p (chordIn s v notes (drop i chord))
     unfolding playedWith playedBy
-    played-next p q a e inv h = rw (e, is) (rw (from-next s notes c i h) at inv)
+    next-played p e = rw (e, at, chord-next)
 
-    marks-next : (e : BeatEffects) (m q a : Articulations) → q ≡ addMarks m (noteMarks e (n .read))
-        → addMarks m (marksOfNotes e (chordFrom s notes c i) ++ beatMarks e) ≡ a
-        → i < sizeOf c → addMarks q (marksOfNotes e (chordFrom s notes c (i + 1)) ++ beatMarks e) ≡ a
-    marks-next e m q a k inv h =
-        rw (k, is) (sym (rw (from-next s notes c i h, append-assoc) (add-both m _ _)) ∙ inv)
+    pub next-marks : (e : BeatEffects) (m : Articulations) {r : Articulations} → r ≡ addMarks m (noteMarks e (readIn v notes string))
+        → addMarks r (marksOfNotes e (chordIn s v notes (drop (i + 1) chord)) ++ beatMarks e)
+        ≡ addMarks m (marksOfNotes e (chordIn s v notes (drop i chord)) ++ beatMarks e)
+    next-marks e m k = rw (k, at, chord-next, append-assoc) (sym (add-both m _ _))
 
-    pub levels-next : (l m a : ChordLevel) → m ≡ chordWith l (n .read .level)
-        → levelsAfter l (chordFrom s notes c i) ≡ a
-        → i < sizeOf c → levelsAfter m (chordFrom s notes c (i + 1)) ≡ a
-    levels-next l m a e inv h = rw (e, is) (rw (from-next s notes c i h) at inv)
+    pub next-level : (l : ChordLevel) {now : ChordLevel} {given : NoteLevel} → given ≡ readIn v notes string .level → now ≡ chordWith l given
+        → levelsAfter now (chordIn s v notes (drop (i + 1) chord)) ≡ levelsAfter l (chordIn s v notes (drop i chord))
+    next-level l e f = rw (f, e, at, chord-next)
 
-    head-next : (g r a : NoteHead) → r ≡ pick (n .read .dead) Cross g → headAnd g (headOf (chordFrom s notes c i)) ≡ a
-        → i < sizeOf c → headAnd r (headOf (chordFrom s notes c (i + 1))) ≡ a
-    head-next g r a e inv h = rw (e, is) (sym (head-one g (noteAt s notes c i .read .dead) (headOf (chordFrom s notes c (i + 1)))) ∙
-        (rw (from-next s notes c i h) at inv))
+    pub next-head : {dead : Bool} → dead ≡ readIn v notes string .dead → dead ≡ false
+        → headOf (chordIn s v notes (drop (i + 1) chord)) ≡ headOf (chordIn s v notes (drop i chord))
+    next-head e f = rw (chord-next, ← at, ← e, f)
 
-    pub graces-next : (x y a : Graces) → y ≡ gracedIf (n .read .effects .grace) x
-        → gracesAfter x (graces (chordFrom s notes c i)) ≡ a
-        → i < sizeOf c → gracesAfter y (graces (chordFrom s notes c (i + 1))) ≡ a
+    pub dead-head : {dead : Bool} → dead ≡ readIn v notes string .dead → dead ≡ true
+        → Cross ≡ headOf (chordIn s v notes (drop i chord))
+    dead-head e f = rw (chord-next, ← at, ← e, f)
+
+    pub next-graces : (x : Graces) {y : Graces} {g : GraceNote} → g ≡ readIn v notes string .effects .grace → y ≡ gracedIf g x
+        → gracesAfter y (graces (chordIn s v notes (drop (i + 1) chord))) ≡ gracesAfter x (graces (chordIn s v notes (drop i chord)))
     unfolding gracedBy
-    graces-next x y a e inv h =
-        rw (e, is) (sym (at (noteAt s notes c i .read .effects .grace)) ∙ (rw (from-next s notes c i h) at inv))
+    next-graces x e f = rw (f, e, at, chord-next) (sym (by (readIn v notes (stringOf (getD chord i 0)) .effects .grace)))
       where
-        at : (g : GraceNote)
-            → gracesAfter x (gracedAfter g (keyedAt s notes c i) (graces (chordFrom s notes c (i + 1))))
-            ≡ gracesAfter (gracedIf g x) (graces (chordFrom s notes c (i + 1)))
-        at NoGrace = refl
-        at (Before g) = refl
-
-  pub levels-end : (l a : ChordLevel) → levelsAfter l (chordFrom s notes c i) ≡ a → sizeOf c ≤ i → l ≡ a
-  levels-end l a inv h = rw (from-end s notes c i h) at inv
-
-  pub graces-end : (x a : Graces) → gracesAfter x (graces (chordFrom s notes c i)) ≡ a → sizeOf c ≤ i → x ≡ a
-  graces-end x a inv h = rw (from-end s notes c i h) at inv
-
--- ---- the four facts of a row at once
-
-pub record Voicing (s : List ℕ) (e : BeatEffects) (notes : List Note) (c : Chord) (i : ℕ) (p : Played)
-    (m : Articulations) (l : ChordLevel) (g : NoteHead) : Type 0 where
-  pub playing : played p (chordFrom s notes c i) ≡ played noPlay (chordIn s notes c)
-  pub marks : addMarks m (marksOfNotes e (chordFrom s notes c i) ++ beatMarks e) ≡ packed (marksOf e (chordIn s notes c))
-  pub level : levelsAfter l (chordFrom s notes c i) ≡ chordOf (levels (chordIn s notes c))
-  pub head : headAnd g (headOf (chordFrom s notes c i)) ≡ headOf (chordIn s notes c)
-
-module _ (s : List ℕ) (e : BeatEffects) (notes : List Note) (c : Chord) where
-  pub voicing : Voicing s e notes c 0 noPlay noMarks (chordOf []) Normal
-  voicing =
-      record {
-        playing = rw from-start;
-        marks = rw from-start (marks-packed e (chordIn s notes c));
-        level = rw from-start (levels-after (chordIn s notes c));
-        head = rw from-start;
-      }
-
-module _ {s : List ℕ} {e : BeatEffects} {notes : List Note} {c : Chord} {i : ℕ} {p : Played} {m : Articulations}
-    {l : ChordLevel} {g : NoteHead} (v : Voicing s e notes c i p m l g) where
-  pub voices : {q : Played} {r : Articulations} {k : ChordLevel} {h : NoteHead} (n : NoteIs) → n ≡ noteAt s notes c i
-      → i < sizeOf c → q ≡ playedBy n p → r ≡ addMarks m (noteMarks e (n .read)) → k ≡ chordWith l (n .read .level)
-      → h ≡ pick (n .read .dead) Cross g → Voicing s e notes c (i + 1) q r k h
-  voices n is inside ep em el eh =
-      record {
-        playing = played-next s notes c i n is _ _ _ ep (v .playing) inside;
-        marks = marks-next s notes c i n is e _ _ _ em (v .marks) inside;
-        level = levels-next s notes c i n is _ _ _ el (v .level) inside;
-        head = head-next s notes c i n is _ _ _ eh (v .head) inside;
-      }
-
-  module _ (past : sizeOf c ≤ i) where
-    pub played-all : p ≡ played noPlay (chordIn s notes c)
-    played-all = rw (from-end s notes c i past) at (v .playing)
-
-    pub marks-all : addMarks m (beatMarks e) ≡ packed (marksOf e (chordIn s notes c))
-    marks-all = rw (from-end s notes c i past) at (v .marks)
-
-    pub levels-all : l ≡ chordOf (levels (chordIn s notes c))
-    levels-all = rw (from-end s notes c i past) at (v .level)
-
-    pub head-all : g ≡ headOf (chordIn s notes c)
-    head-all = sym (head-none g) ∙ (rw (from-end s notes c i past) at (v .head))
+        by : (g : GraceNote)
+            → gracesAfter x (gracedAfter g (keyedIn s v notes (getD chord i 0)) (graces (chordIn s v notes (drop (i + 1) chord))))
+            ≡ gracesAfter (gracedIf g x) (graces (chordIn s v notes (drop (i + 1) chord)))
+        by NoGrace = refl
+        by (Before g) = refl
 
 -- ---- the row
 
-module _ (s : List ℕ) (notes : List Note) (c : Chord) where
-  pub no-notes : sizeOf c ≡ 0 → chordIn s notes c ≡ []
-  no-notes e = rw (← from-start s notes c, from-end s notes c 0 (omega arith))
+module _ (s : List ℕ) (v : ℕ) (notes : List ℕ) (place : Place) (board : Fretboard) (flat : Bool) (running : ℕ) (b : BeatIs)
+    (d : Draft) where
+  pub row-rest : (chord : List ℕ) → length chord ≡ 0 → draftIn s [] d ≡ restRow place b
+      → draftIn s (map (memberOf board flat) (chordIn s v notes chord)) d
+      ≡ beatRow place board flat running b (chordIn s v notes chord)
+  unfolding chordIn
+  row-rest [] e h = h
+  row-rest (x ∷ l) e h = absurd (omega arith)
 
-  module _ (place : Place) (board : Fretboard) (flat : Bool) (running : ℕ) (b : BeatIs) where
-    pub row-rest : sizeOf c ≡ 0 → restRow place b ≡ beatRow place board flat running b (chordIn s notes c)
-    row-rest e = rw (no-notes e)
-
-    pub row-chord : 0 < sizeOf c
-        → chordRow place board flat running b (chordIn s notes c)
-        ≡ beatRow place board flat running b (chordIn s notes c)
-    row-chord h = rw (← from-start s notes c, from-next s notes c 0 h)
+  pub row-chord : (chord : List ℕ) → (length chord ≡ 0 → ⊥)
+      → draftIn s (map (memberOf board flat) (chordIn s v notes chord)) d
+      ≡ chordRow place board flat running b (chordIn s v notes chord)
+      → draftIn s (map (memberOf board flat) (chordIn s v notes chord)) d
+      ≡ beatRow place board flat running b (chordIn s v notes chord)
+  unfolding chordIn
+  row-chord [] e h = absurd (e refl)
+  row-chord (x ∷ l) e h = h

@@ -1,5 +1,3 @@
-pub mod Meant
 pub mod Chord
-pub mod Member
-pub mod Voicing
+pub mod Meant
 pub mod Steps

@@ -1,43 +1,24 @@
--- What the values of this crate mean in a file s. Assumes nothing.
+-- What a draft means in a file s: a row, with the members that belong to it. Assumes nothing.
 use Prim.Native.Nat.{ℕ}
-use mathlib.Core.List.{List, map}
-use lib.ListN.{getD, take}
+use mathlib.Core.List.{List}
 use Rattle.model.specs.declared.Member.{Member}
-use Rattle.note.specs.declared.Note.{Note}
+use Rattle.model.specs.declared.Point.{Point}
 use Rattle.note.specs.Points.{bendIn}
-use Rattle.note.specs.Note.{NoteIs, noteIn, noNote}
-use Rattle.score.specs.Members.{Keyed}
 use Rattle.score.specs.Rows.{RowIs, curveOf}
-use Rattle.draft.specs.declared.Struck.{Struck}
-use Rattle.draft.specs.declared.Chord.{Chord}
-use Rattle.draft.specs.declared.Members.{Members}
 use Rattle.draft.specs.declared.Draft.{Draft}
 
-abbrev pub notesIn : List ℕ → List Note → List NoteIs
-notesIn s notes = map (noteIn s) notes
-
--- a note that sounds, among the notes of its beat
-abbrev pub struckIn : List ℕ → List Note → Struck → Keyed
-struckIn s notes k =
-    record { key = k .key; sound = record { string = k .string; fret = k .fret; note = getD (notesIn s notes) (k .string) noNote } }
-
-unfoldable pub chordIn : List ℕ → List Note → Chord → List Keyed
-chordIn s notes c = map (struckIn s notes) (take (c .count) (c .notes))
-
-unfoldable pub membersIn : Members → List Member
-membersIn m = take (m .count) (m .list)
-
-abbrev pub draftIn : List ℕ → Draft → RowIs
-draftIn s d =
+-- with its members and its curve
+abbrev pub drawn : List Member → List Point → Draft → RowIs
+drawn members curve d =
     record {
       place = d .place;
       kind = d .kind;
       rest = d .rest;
       value = d .value;
-      members = membersIn (d .members);
+      members = members;
       text = d .text;
       technique = d .technique;
-      curve = curveOf (bendIn s (d .bend));
+      curve = curve;
       dynamic = d .dynamic;
       articulations = d .articulations;
       arpeggio = d .arpeggio;
@@ -45,3 +26,7 @@ draftIn s d =
       ottava = d .ottava;
       chord = d .chord;
     }
+
+-- the curve is that of its bend
+abbrev pub draftIn : List ℕ → List Member → Draft → RowIs
+draftIn s members d = drawn members (curveOf (bendIn s (d .bend))) d

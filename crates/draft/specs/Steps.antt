@@ -1,7 +1,8 @@
 -- What each note of a chord adds to its row. Assumes nothing.
 use Prim.Native.Nat.{ℕ}
+use mathlib.Core.Path.{_≡_}
 use mathlib.Core.List.{List, [], _∷_}
-use mathlib.Core.Bool.{Bool, true, false}
+use mathlib.Core.Bool.{Bool, true, false, _||_}
 use lib.Dec.{eqb}
 use Rattle.format.specs.Text.{pick}
 use Rattle.model.specs.declared.Articulation.{Articulation}
@@ -17,10 +18,20 @@ use Rattle.note.specs.declared.marks.GraceNote.the-variants.{NoGrace, Before}
 use Rattle.note.specs.declared.marks.NoteEffects.{NoteEffects}
 use Rattle.note.specs.Points.{bendIn}
 use Rattle.note.specs.Note.{NoteIs}
-use Rattle.score.specs.Members.{Graced}
-use Rattle.score.specs.Rows.{Played, withText, withBend, withHammer, withSlide, graceTechnique, graceText, graceHead}
+use Rattle.beat.specs.declared.effects.BeatEffects.{BeatEffects}
+use Rattle.score.specs.Members.{Keyed, Graced}
+use Rattle.score.specs.Rows.{Played, withText, withBend, withHammer, withSlide, played, noPlay, marksOfNotes, graceTechnique, graceText, graceHead}
 use Rattle.draft.specs.declared.played.Played.{Played as PlayedHere}
-use Rattle.draft.specs.declared.rows.Graces.{Graces}
+use Rattle.model.specs.declared.Arpeggio.the-variants.{NoArpeggio}
+use Rattle.model.specs.declared.Duration.the-variants.{ThirtySecond}
+use Rattle.model.specs.declared.Ottava.the-variants.{NoOttava}
+use Rattle.model.specs.declared.Place.{Place}
+use Rattle.model.specs.declared.RowKind.the-variants as K
+use Rattle.model.specs.declared.Tuplet.the-variants.{NoTuplet}
+use Rattle.model.specs.Marks.{packed}
+use Rattle.curve.specs.declared.level.Level.the-variants.{Absent}
+use Rattle.draft.specs.declared.Draft.{Draft}
+use Rattle.draft.specs.declared.graces.Graces.{Graces}
 
 -- ---- technique and its text
 
@@ -39,6 +50,12 @@ playedBy n p =
 unfoldable pub addMarks : Articulations → List Articulation → Articulations
 addMarks m [] = m
 addMarks m (a ∷ more) = addMarks (addMark a m) more
+
+-- ---- notes that give their row nothing: no technique and, where the beat has no harmonic, no articulations
+
+pub record Quiet (xs : List Keyed) : Type 0 where
+  pub playing : played noPlay xs ≡ noPlay
+  pub marks : (e : BeatEffects) → (e .«natural_harmonic» || e .«artificial_harmonic») ≡ false → marksOfNotes e xs ≡ []
 
 -- ---- graces
 
@@ -68,3 +85,22 @@ gracedBy g x =
 abbrev pub gracedIf : GraceNote → Graces → Graces
 gracedIf NoGrace x = x
 gracedIf (Before g) x = gracedBy g x
+
+-- `graceRow` of Rows but for its members
+unfoldable pub graceDraft : Place → Graces → Draft
+graceDraft place x =
+    record {
+      place = place;
+      kind = K.Grace;
+      rest = false;
+      value = record { duration = ThirtySecond; dot = false; tuplet = NoTuplet };
+      text = x .text;
+      technique = x .technique;
+      bend = record { start = 0; count = 0 };
+      dynamic = Absent;
+      articulations = packed [];
+      arpeggio = NoArpeggio;
+      head = x .head;
+      ottava = NoOttava;
+      chord = record { start = 0; end = 0 };
+    }

@@ -1,17 +1,18 @@
-// What is made of a beat, by value: which of its notes sound, in the order of their keys, and the rows of a kept beat before they are
-// entered in the tables.
+// What is made of a beat: which of its notes sound, in the order of their keys, and the rows of a kept beat before they are entered in
+// the tables.
+pub mod chord; // a chord as words
 pub mod sounding; // which notes sound, in the order of their keys
 pub mod member; // the members of a row
-pub mod voicing; // what the notes of a chord give its row
 pub mod played; // technique and its text
 pub mod marks; // articulations
+pub mod voicing; // what the notes of a chord give its row
+pub mod graces; // what the graces of a chord give theirs
 pub mod rows; // the rows of a beat
 
 use curve::level::Level;
 use format::Range;
 use model::Arpeggio;
 use model::Articulations;
-use model::Member;
 use model::NoteHead;
 use model::NoteValue;
 use model::Ottava;
@@ -21,32 +22,12 @@ use model::Technique;
 use model::TechniqueText;
 use note::bend::Bend;
 
-// A note that sounds. `string` is its place in the file's order of strings.
-pub struct Struck {
-    pub key: u8,
-    pub string: u8,
-    pub fret: u8,
-}
-
-// The first `count` of the notes, in the order of their keys, equal keys in the order read.
-pub struct Chord {
-    pub notes: [Struck; 7],
-    pub count: usize,
-}
-
-// The first `count` of the members.
-pub struct Members {
-    pub list: [Member; 7],
-    pub count: usize,
-}
-
-// A row with what belongs to it: its members, and its bend where the points stand in the file.
+// A row but for its members, which are made of the chord where they are entered; its bend where the points stand in the file.
 pub struct Draft {
     pub place: Place,
     pub kind: RowKind,
     pub rest: bool,
     pub value: NoteValue,
-    pub members: Members,
     pub text: TechniqueText,
     pub technique: Technique,
     pub bend: Bend,

@@ -1,14 +1,18 @@
 // Articulations, in the order in which they are added (RULES.md 21).
 ghost use mathlib.Core.Path.{_≡_};
+ghost use Prim.Native.Nat.{ℕ};
+ghost use Rattle.note.specs.Words.{readIn};
+ghost use Rattle.beat.specs.Words.{effectsIn};
 ghost use Rattle.score.specs.Rows as rule;
 ghost use Rattle.draft.specs.Steps.{addMarks};
-use beat::effects::BeatEffects;
 use beat::effects::PickStroke;
+use beat::places::Beat;
 use model::Articulation;
 use model::Articulations;
 use model::marks::added;
-use note::NoteRead;
+use note::field;
 use note::marks::Tremolo;
+use note::places::Notes;
 
 fn added_if(m: Articulations, given: bool, a: Articulation) -> Articulations
     ensures { λ r. ⌜ r ≡ addMarks m (rule.only given a) ⌝ }
@@ -19,13 +23,13 @@ fn added_if(m: Articulations, given: bool, a: Articulation) -> Articulations
     m
 }
 
-fn with_accent(m: Articulations, note: NoteRead) -> Articulations
-    ensures { λ r. ⌜ r ≡ addMarks m (rule.accents note) ⌝ }
+fn with_accent(m: Articulations, notes: &Notes, string: usize) -> Articulations
+    ensures { λ r. ⌜ ((v : ℕ) → r ≡ addMarks m (rule.accents (readIn v (now (notes .entry)) string))) ⌝ }
 {
-    if note.heavy_accent {
+    if field::heavy_accent(notes, string) {
         return added(m, Articulation::Marcato);
     }
-    added_if(m, note.accent, Articulation::Accent)
+    added_if(m, field::accent(notes, string), Articulation::Accent)
 }
 
 fn strokes(n: u8) -> Articulation
@@ -49,44 +53,39 @@ fn with_tremolo(m: Articulations, tremolo: Tremolo) -> Articulations
     added(m, strokes(n))
 }
 
-fn harmonic(note: NoteRead, effects: BeatEffects) -> bool
-    ensures { λ r. ⌜ r ≡ rule.harmonics note effects ⌝ }
+fn with_slide(m: Articulations, notes: &Notes, string: usize, v: u32) -> Articulations
+    ensures { λ r. ⌜ r ≡ addMarks m (rule.slides (readIn v (now (notes .entry)) string .effects .slide)) ⌝ }
 {
-    note.effects.harmonic | (effects.natural_harmonic | effects.artificial_harmonic)
+    let slide = field::slide(notes, string, v);
+    let m = added_if(m, slide.falloff, Articulation::Falloff);
+    let m = added_if(m, slide.doit, Articulation::Doit);
+    let m = added_if(m, slide.scoop, Articulation::Scoop);
+    added_if(m, slide.plop, Articulation::Plop)
 }
 
-// Where a mark is not given nothing is copied: of most notes few are.
-pub(crate) fn with_note(m: Articulations, effects: BeatEffects, note: NoteRead) -> Articulations
-    ensures { λ r. ⌜ r ≡ addMarks m (rule.noteMarks effects note) ⌝ }
+fn harmonic(b: &Beat, notes: &Notes, string: usize, v: u32) -> bool
+    ensures { λ r. ⌜ r ≡ rule.harmonics (readIn v (now (notes .entry)) string) (effectsIn v (now (b .entry))) ⌝ }
 {
-    let marks = note.effects;
-    let slide = marks.slide;
-    let tremolo = marks.tremolo;
-    let mut m = with_accent(m, note);
-    if marks.vibrato {
-        m = added(m, Articulation::Vibrato);
-    }
-    if slide.falloff {
-        m = added(m, Articulation::Falloff);
-    }
-    if slide.doit {
-        m = added(m, Articulation::Doit);
-    }
-    if slide.scoop {
-        m = added(m, Articulation::Scoop);
-    }
-    if slide.plop {
-        m = added(m, Articulation::Plop);
-    }
-    if marks.staccato {
-        m = added(m, Articulation::Staccato);
-    }
-    if harmonic(note, effects) {
-        m = added(m, Articulation::Harmonic);
-    }
-    if marks.trill {
-        m = added(m, Articulation::Trill);
-    }
+    field::harmonic(notes, string)
+        | (beat::field::natural_harmonic(b, v) | beat::field::artificial_harmonic(b, v))
+}
+
+pub(crate) fn with_note(
+    m: Articulations,
+    b: &Beat,
+    notes: &Notes,
+    string: usize,
+    v: u32,
+) -> Articulations
+    ensures { λ r. ⌜ r ≡ addMarks m (rule.noteMarks (effectsIn v (now (b .entry))) (readIn v (now (notes .entry)) string)) ⌝ }
+{
+    let tremolo = field::tremolo(notes, string);
+    let m = with_accent(m, notes, string);
+    let m = added_if(m, field::vibrato(notes, string), Articulation::Vibrato);
+    let m = with_slide(m, notes, string, v);
+    let m = added_if(m, field::staccato(notes, string), Articulation::Staccato);
+    let m = added_if(m, harmonic(b, notes, string, v), Articulation::Harmonic);
+    let m = added_if(m, field::trill(notes, string), Articulation::Trill);
     with_tremolo(m, tremolo)
 }
 
@@ -100,11 +99,11 @@ fn with_bow(m: Articulations, stroke: PickStroke) -> Articulations
     }
 }
 
-pub(crate) fn with_beat(m: Articulations, effects: BeatEffects) -> Articulations
-    ensures { λ r. ⌜ r ≡ addMarks m (rule.beatMarks effects) ⌝ }
+pub(crate) fn with_beat(m: Articulations, b: &Beat, v: u32) -> Articulations
+    ensures { λ r. ⌜ r ≡ addMarks m (rule.beatMarks (effectsIn v (now (b .entry)))) ⌝ }
 {
-    let stroke = effects.pick;
+    let stroke = beat::field::pick(b);
     let m = with_bow(m, stroke);
-    let m = added_if(m, effects.vibrato, Articulation::Vibrato);
-    added_if(m, effects.tap, Articulation::Tap)
+    let m = added_if(m, beat::field::vibrato(b, v), Articulation::Vibrato);
+    added_if(m, beat::field::tap(b), Articulation::Tap)
 }

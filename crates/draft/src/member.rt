@@ -1,53 +1,32 @@
 // The members of a row: of the notes of a chord, and of the graces before them.
 ghost use mathlib.Core.Path.{_≡_};
-ghost use Prim.Native.Nat.{_-_, _<_};
-ghost use mathlib.Core.List.{[], _∷_, map};
-ghost use Rattle.score.specs.Members.{positionOf, turned, fingerOf, memberOf, graces, graceMember};
-ghost use Rattle.draft.specs.Meant.{chordIn, membersIn};
-ghost use Rattle.draft.specs.Member.{struckAs, Longer};
-use crate::Chord;
-use crate::Members;
-use crate::Struck;
-use crate::voicing::size_of;
+ghost use mathlib.Core.List.{List};
+ghost use Prim.Native.Nat.{ℕ, _-_};
+ghost use Rattle.score.specs.Members.{positionOf, turned, fingerOf, memberOf, graceMember};
+ghost use Rattle.draft.specs.Chord.{keyedIn};
+use crate::chord;
 use model::Finger;
 use model::Member;
 use model::TabPosition;
 use model::Ties;
 use note::LeftHand;
-use note::NO_NOTE;
-use note::Note;
-use note::NoteRead;
+use note::field;
 use note::marks::Grace;
-use note::marks::GraceNote;
+use note::places::Notes;
 use score::Fretboard;
 
-const NO_TIES: Ties = Ties {
-    end: false,
-    start: false,
-};
-
-const NO_MEMBER: Member = Member {
-    key: 0,
-    flat: false,
-    position: TabPosition::OffTablature,
-    ghosted: false,
-    ties: NO_TIES,
-    finger: Finger::NoFinger,
-};
-
-pub(crate) const NO_MEMBERS: Members = Members {
-    list: [NO_MEMBER; 7],
-    count: 0,
-};
-
 // RULES.md 17: 1 is the lowest string.
-fn string_number(count: u8, string: u8) -> u8
+fn string_number(count: u8, string: usize) -> u8
     ensures { λ r. ⌜ r ≡ count - string ⌝ }
 {
-    if string < count { count - string } else { 0 }
+    let strings = count as usize;
+    if string < strings {
+        return (strings - string) as u8;
+    }
+    0
 }
 
-fn position_of(board: Fretboard, string: u8, fret: u8) -> TabPosition
+fn position_of(board: Fretboard, string: usize, fret: u8) -> TabPosition
     ensures { λ r. ⌜ r ≡ positionOf board string fret ⌝ }
 {
     let strings = board.strings;
@@ -70,7 +49,7 @@ fn numbered_finger(n: u8) -> Finger
     }
 }
 
-fn finger_of(hand: LeftHand) -> Finger
+pub fn finger_of(hand: LeftHand) -> Finger
     ensures { λ r. ⌜ r ≡ fingerOf hand ⌝ }
 {
     match hand {
@@ -87,19 +66,20 @@ fn flat_of(flat: bool, swap: bool) -> bool
     if swap { !flat } else { flat }
 }
 
-fn member_of(board: Fretboard, flat: bool, struck: Struck, read: NoteRead) -> Member
-    ensures { λ r. ⌜ r ≡ memberOf board flat (struckAs struck read) ⌝ }
+pub fn member_of(board: Fretboard, flat: bool, notes: &Notes, struck: u32) -> Member
+    ensures { λ r. ⌜ ((s : List ℕ) (v : ℕ) → r ≡ memberOf board flat (keyedIn s v (now (notes .entry)) struck)) ⌝ }
 {
-    let hand = read.left_hand;
-    let position = position_of(board, struck.string, struck.fret);
+    let string = chord::string_of(struck);
+    let hand = field::left_hand(notes, string);
+    let position = position_of(board, string, chord::fret_of(struck));
     let finger = finger_of(hand);
     Member {
-        key: struck.key,
-        flat: flat_of(flat, read.swap_accidental),
+        key: chord::key_of(struck),
+        flat: flat_of(flat, field::swap_accidental(notes, string)),
         position,
-        ghosted: read.ghosted,
+        ghosted: field::ghosted(notes, string),
         ties: Ties {
-            end: read.tie,
+            end: field::tied(notes, string),
             start: false,
         },
         finger,
@@ -107,94 +87,31 @@ fn member_of(board: Fretboard, flat: bool, struck: Struck, read: NoteRead) -> Me
 }
 
 // A grace's offset is taken from the fret read, not the one remembered.
-fn grace_member(
+pub fn grace_member(
     board: Fretboard,
     flat: bool,
-    struck: Struck,
-    read: NoteRead,
+    notes: &Notes,
+    struck: u32,
     grace: Grace,
 ) -> Member
-    ensures { λ r. ⌜ r ≡ graceMember board flat (record { grace = grace; note = struckAs struck read }) ⌝ }
+    ensures { λ r. ⌜ ((s : List ℕ) (v : ℕ) → r
+        ≡ graceMember board flat (record { grace = grace; note = keyedIn s v (now (notes .entry)) struck })) ⌝ }
 {
-    let position = position_of(board, struck.string, grace.fret);
+    let string = chord::string_of(struck);
+    let position = position_of(board, string, grace.fret);
     Member {
-        key: curve::key::grace_key(struck.key, read.fret, grace.fret),
+        key: curve::key::grace_key(
+            chord::key_of(struck),
+            field::fret(notes, string),
+            grace.fret,
+        ),
         flat,
         position,
         ghosted: false,
-        ties: NO_TIES,
+        ties: Ties {
+            end: false,
+            start: false,
+        },
         finger: Finger::NoFinger,
     }
-}
-
-fn with_member(members: Members, member: Member) -> Members
-    requires { ⌜ members .count < 7 ⌝ }
-    ensures { λ r. ⌜ Longer members (member ∷ []) r ⌝ }
-{
-    let count = members.count;
-    let mut list = members.list;
-    list[count] = member;
-    Members {
-        list,
-        count: count + 1,
-    }
-}
-
-fn with_grace(
-    members: Members,
-    board: Fretboard,
-    flat: bool,
-    struck: Struck,
-    read: NoteRead,
-) -> Members
-    requires { ⌜ members .count < 7 ⌝ }
-    ensures { λ r. ⌜ Longer members (map (graceMember board flat) (graces (struckAs struck read ∷ []))) r ⌝ }
-{
-    let effects = read.effects;
-    let given = effects.grace;
-    let GraceNote::Before(grace) = given else {
-        return members;
-    };
-    with_member(members, grace_member(board, flat, struck, read, grace))
-}
-
-pub fn members_of(s: &[u8], board: Fretboard, flat: bool, notes: [Note; 7], chord: Chord) -> Members
-    ensures { λ r. ⌜ membersIn r ≡ map (memberOf board flat) (chordIn (now (s .entry)) notes chord) ⌝ }
-{
-    let size = size_of(chord);
-    let mut list = [NO_MEMBER; 7];
-    let mut i: usize = 0;
-    while i < size {
-        let struck = chord.notes[i];
-        let string = struck.string as usize;
-        let note = if string < 7 { notes[string] } else { NO_NOTE };
-        let read = note.read;
-        list[i] = member_of(board, flat, struck, read);
-        i += 1;
-    }
-    Members { list, count: i }
-}
-
-// Grace members stand as their notes.
-pub fn grace_members_of(
-    s: &[u8],
-    board: Fretboard,
-    flat: bool,
-    notes: [Note; 7],
-    chord: Chord,
-) -> Members
-    ensures { λ r. ⌜ membersIn r ≡ map (graceMember board flat) (graces (chordIn (now (s .entry)) notes chord)) ⌝ }
-{
-    let size = size_of(chord);
-    let mut members = NO_MEMBERS;
-    let mut i: usize = 0;
-    while i < size {
-        let struck = chord.notes[i];
-        let string = struck.string as usize;
-        let note = if string < 7 { notes[string] } else { NO_NOTE };
-        let read = note.read;
-        members = with_grace(members, board, flat, struck, read);
-        i += 1;
-    }
-    members
 }

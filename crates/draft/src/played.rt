@@ -1,15 +1,17 @@
 // Technique and its text: the members are gone through in the order of their keys (RULES.md 19).
 ghost use mathlib.Core.Path.{_≡_};
+ghost use mathlib.Core.List.{List};
+ghost use Prim.Native.Nat.{ℕ};
 ghost use Rattle.format.specs.Text.{pick};
 ghost use Rattle.note.specs.Points.{bendIn};
-ghost use Rattle.note.specs.Note.{noteIn};
+ghost use Rattle.note.specs.Words.{start, noteIn, readIn, bendAt};
 ghost use Rattle.score.specs.Rows as rule;
 ghost use Rattle.draft.specs.Steps.{playedIn, playedBy};
 use model::Technique;
 use model::TechniqueText;
-use note::Note;
 use note::bend::Bend;
-use note::marks::NoteEffects;
+use note::field;
+use note::places::Notes;
 
 pub struct Played {
     pub text: TechniqueText,
@@ -49,20 +51,21 @@ fn none_yet(technique: Technique) -> bool
 }
 
 // Palm mute overwrites the hammer mark; let ring does not.
-fn with_text(s: &[u8], effects: NoteEffects, p: Played) -> Played
-    ensures { λ r. ⌜ playedIn (now (s .entry)) r ≡ rule.withText effects (playedIn (now (s .entry)) p) ⌝ }
+fn with_text(notes: &Notes, string: usize, p: Played) -> Played
+    ensures { λ r. ⌜ ((s : List ℕ) (v : ℕ) → playedIn s r
+        ≡ rule.withText (readIn v (now (notes .entry)) string .effects) (playedIn s p)) ⌝ }
 {
     let text = p.text;
     let technique = p.technique;
     let bend = p.bend;
-    if effects.palm_mute {
+    if field::palm_mute(notes, string) {
         return Played {
             text: TechniqueText::PalmMute,
             technique,
             bend,
         };
     }
-    if effects.let_ring & none_text(text) {
+    if field::let_ring(notes, string) & none_text(text) {
         return Played {
             text: TechniqueText::LetRing,
             technique,
@@ -72,9 +75,8 @@ fn with_text(s: &[u8], effects: NoteEffects, p: Played) -> Played
     p
 }
 
-fn with_bend(s: &[u8], bend: Bend, p: Played) -> Played
-    ensures { λ r. ⌜ playedIn (now (s .entry)) r ≡
-        rule.withBend (bendIn (now (s .entry)) bend) (playedIn (now (s .entry)) p) ⌝ }
+fn with_bend(bend: Bend, p: Played) -> Played
+    ensures { λ r. ⌜ ((s : List ℕ) → playedIn s r ≡ rule.withBend (bendIn s bend) (playedIn s p)) ⌝ }
 {
     let technique = p.technique;
     if (0 < bend.count) & none_yet(technique) {
@@ -97,11 +99,12 @@ fn hammer_text(text: TechniqueText) -> TechniqueText
     text
 }
 
-fn with_hammer(s: &[u8], effects: NoteEffects, p: Played) -> Played
-    ensures { λ r. ⌜ playedIn (now (s .entry)) r ≡ rule.withHammer effects (playedIn (now (s .entry)) p) ⌝ }
+fn with_hammer(notes: &Notes, string: usize, p: Played) -> Played
+    ensures { λ r. ⌜ ((s : List ℕ) (v : ℕ) → playedIn s r
+        ≡ rule.withHammer (readIn v (now (notes .entry)) string .effects) (playedIn s p)) ⌝ }
 {
     let technique = p.technique;
-    if effects.hammer & none_yet(technique) {
+    if field::hammer(notes, string) & none_yet(technique) {
         let text = p.text;
         let bend = p.bend;
         return Played {
@@ -113,11 +116,13 @@ fn with_hammer(s: &[u8], effects: NoteEffects, p: Played) -> Played
     p
 }
 
-fn with_slide(s: &[u8], effects: NoteEffects, p: Played) -> Played
-    ensures { λ r. ⌜ playedIn (now (s .entry)) r ≡ rule.withSlide effects (playedIn (now (s .entry)) p) ⌝ }
+fn with_slide(notes: &Notes, string: usize, v: u32, p: Played) -> Played
+    ensures { λ r. ⌜ ((s : List ℕ) → playedIn s r
+        ≡ rule.withSlide (readIn v (now (notes .entry)) string .effects) (playedIn s p)) ⌝ }
 {
     let technique = p.technique;
-    if effects.slide.slide & none_yet(technique) {
+    let slide = field::slide(notes, string, v);
+    if slide.slide & none_yet(technique) {
         let text = p.text;
         let bend = p.bend;
         return Played {
@@ -129,12 +134,10 @@ fn with_slide(s: &[u8], effects: NoteEffects, p: Played) -> Played
     p
 }
 
-pub(crate) fn played_by(s: &[u8], note: Note, p: Played) -> Played
-    ensures { λ r. ⌜ playedIn (now (s .entry)) r ≡
-        playedBy (noteIn (now (s .entry)) note) (playedIn (now (s .entry)) p) ⌝ }
+pub(crate) fn played_by(notes: &Notes, string: usize, v: u32, p: Played) -> Played
+    ensures { λ r. ⌜ ((s : List ℕ) → playedIn s r ≡ playedBy (noteIn s v (now (notes .entry)) (start string)) (playedIn s p)) ⌝ }
 {
-    let effects = note.read.effects;
-    let bend = note.bend;
-    let p = with_bend(s, bend, with_text(s, effects, p));
-    with_slide(s, effects, with_hammer(s, effects, p))
+    let bend = field::bend(notes, string);
+    let p = with_bend(bend, with_text(notes, string, p));
+    with_slide(notes, string, v, with_hammer(notes, string, p))
 }

@@ -1,39 +1,32 @@
-// What the notes of a chord give its row, gone through once, from the lowest key on.
+// What the notes of a chord give its row, from the lowest key on.
 ghost use mathlib.Core.Path.{_≡_};
-ghost use Prim.Native.Nat.{_≤_};
+ghost use mathlib.Core.Bool.{false};
+ghost use mathlib.Core.List.{List};
+ghost use Prim.Native.Nat.{ℕ};
 ghost use Rattle.format.specs.Text.{pick};
 ghost use Rattle.model.specs.Marks.{packed};
 ghost use Rattle.curve.specs.Level.{chordOf};
+ghost use Rattle.beat.specs.Words.{effectsIn};
 ghost use Rattle.score.specs.Rows as rule;
-ghost use Rattle.draft.specs.Meant.{chordIn};
-ghost use Rattle.draft.specs.Voicing.{sizeOf};
-ghost use Rattle.draft.specs.Steps.{playedIn};
-use crate::Chord;
+ghost use Rattle.draft.specs.Chord.{chordIn};
+ghost use Rattle.draft.specs.Steps.{playedIn, addMarks, Quiet};
+use crate::chord;
 use crate::marks::with_beat;
 use crate::marks::with_note;
 use crate::played::NO_PLAY;
 use crate::played::Played;
 use crate::played::played_by;
-use beat::effects::BeatEffects;
+use beat::places::Beat;
 use curve::level::ChordLevel;
 use model::Articulations;
 use model::NoteHead;
 use model::marks::none_added;
-use note::NO_NOTE;
-use note::Note;
+use note::field;
+use note::places::Notes;
 
 pub(crate) struct Voiced {
     pub played: Played,
     pub marks: Articulations,
-    pub level: ChordLevel,
-    pub head: NoteHead,
-}
-
-// How many notes a chord has: a count past seven is seven.
-pub fn size_of(chord: Chord) -> usize
-    ensures { λ r. ⌜ (r ≡ sizeOf chord) × (r ≤ 7) ⌝ }
-{
-    if chord.count <= 7 { chord.count } else { 7 }
 }
 
 // One dead note gives the X head.
@@ -46,36 +39,94 @@ pub(crate) fn head_with(dead: bool, before: NoteHead) -> NoteHead
     before
 }
 
-// The notes stay where they are: handed on, all seven would be copied for each of them.
-pub(crate) fn voicing_of(s: &[u8], effects: BeatEffects, notes: [Note; 7], chord: Chord) -> Voiced
-    ensures played { λ r. ⌜ playedIn (now (s .entry)) (r .played) ≡
-        rule.played rule.noPlay (chordIn (now (s .entry)) notes chord) ⌝ }
-    ensures marks { λ r. ⌜ r .marks ≡ packed (rule.marksOf effects (chordIn (now (s .entry)) notes chord)) ⌝ }
-    ensures level { λ r. ⌜ r .level ≡ chordOf (rule.levels (chordIn (now (s .entry)) notes chord)) ⌝ }
-    ensures head { λ r. ⌜ r .head ≡ rule.headOf (chordIn (now (s .entry)) notes chord) ⌝ }
+pub(crate) fn head_of(notes: &Notes, chord: &[u32]) -> NoteHead
+    ensures { λ r. ⌜ ((s : List ℕ) (v : ℕ) → r ≡ rule.headOf (chordIn s v (now (notes .entry)) (now (chord .entry)))) ⌝ }
 {
-    let count = size_of(chord);
-    let mut played = NO_PLAY;
-    let mut m = none_added();
-    let mut level = curve::level::no_chord();
-    let mut head = NoteHead::Normal;
-    let mut i = 0;
-    while i < count {
-        let struck = chord.notes[i];
-        let string = struck.string as usize;
-        let note = if string < 7 { notes[string] } else { NO_NOTE };
-        let read = note.read;
-        let given = read.level;
-        played = played_by(s, note, played);
-        m = with_note(m, effects, read);
-        level = curve::level::chord_with(level, given);
-        head = head_with(read.dead, head);
+    let mut i: usize = 0;
+    while i < chord.len() {
+        if field::dead(notes, chord::string_of(chord[i])) {
+            return NoteHead::Cross;
+        }
         i += 1;
     }
+    NoteHead::Normal
+}
+
+pub(crate) fn levels_of(notes: &Notes, chord: &[u32]) -> ChordLevel
+    ensures { λ r. ⌜ ((s : List ℕ) (v : ℕ) → r
+        ≡ chordOf (rule.levels (chordIn s v (now (notes .entry)) (now (chord .entry))))) ⌝ }
+{
+    let mut level = curve::level::no_chord();
+    let mut i: usize = 0;
+    while i < chord.len() {
+        let given = field::level(notes, chord::string_of(chord[i]));
+        level = curve::level::chord_with(level, given);
+        i += 1;
+    }
+    level
+}
+
+fn voiced_by(b: &Beat, notes: &Notes, chord: &[u32], v: u32) -> Voiced
+    ensures played { λ r. ⌜ ((s : List ℕ) → playedIn s (r .played)
+        ≡ rule.played rule.noPlay (chordIn s v (now (notes .entry)) (now (chord .entry)))) ⌝ }
+    ensures marks { λ r. ⌜ ((s : List ℕ) → addMarks (r .marks) (rule.beatMarks (effectsIn v (now (b .entry))))
+        ≡ packed (rule.marksOf (effectsIn v (now (b .entry))) (chordIn s v (now (notes .entry)) (now (chord .entry))))) ⌝ }
+{
+    let mut played = NO_PLAY;
+    let mut m = none_added();
+    let mut i: usize = 0;
+    while i < chord.len() {
+        let string = chord::string_of(chord[i]);
+        played = played_by(notes, string, v, played);
+        m = with_note(m, b, notes, string, v);
+        i += 1;
+    }
+    Voiced { played, marks: m }
+}
+
+// Whether one of its notes has an accent or effects.
+fn any_voiced(notes: &Notes, chord: &[u32]) -> bool
+    ensures { λ r. ⌜ ((s : List ℕ) (v : ℕ) → r ≡ false → Quiet (chordIn s v (now (notes .entry)) (now (chord .entry)))) ⌝ }
+{
+    let mut i: usize = 0;
+    while i < chord.len() {
+        if field::voiced(notes, chord::string_of(chord[i])) {
+            return true;
+        }
+        i += 1;
+    }
+    false
+}
+
+// Most chords are passed over: none of their notes has an accent or effects.
+fn voiced_if(b: &Beat, notes: &Notes, chord: &[u32], v: u32) -> Voiced
+    ensures played { λ r. ⌜ ((s : List ℕ) → playedIn s (r .played)
+        ≡ rule.played rule.noPlay (chordIn s v (now (notes .entry)) (now (chord .entry)))) ⌝ }
+    ensures marks { λ r. ⌜ ((s : List ℕ) → addMarks (r .marks) (rule.beatMarks (effectsIn v (now (b .entry))))
+        ≡ packed (rule.marksOf (effectsIn v (now (b .entry))) (chordIn s v (now (notes .entry)) (now (chord .entry))))) ⌝ }
+{
+    let natural = beat::field::natural_harmonic(b, v);
+    let artificial = beat::field::artificial_harmonic(b, v);
+    if (natural | artificial) | any_voiced(notes, chord) {
+        return voiced_by(b, notes, chord, v);
+    }
+    Voiced {
+        played: NO_PLAY,
+        marks: none_added(),
+    }
+}
+
+pub(crate) fn voicing_of(b: &Beat, notes: &Notes, chord: &[u32], v: u32) -> Voiced
+    ensures played { λ r. ⌜ ((s : List ℕ) → playedIn s (r .played)
+        ≡ rule.played rule.noPlay (chordIn s v (now (notes .entry)) (now (chord .entry)))) ⌝ }
+    ensures marks { λ r. ⌜ ((s : List ℕ) → r .marks
+        ≡ packed (rule.marksOf (effectsIn v (now (b .entry))) (chordIn s v (now (notes .entry)) (now (chord .entry))))) ⌝ }
+{
+    let voiced = voiced_if(b, notes, chord, v);
+    let played = voiced.played;
+    let marks = voiced.marks;
     Voiced {
         played,
-        marks: with_beat(m, effects),
-        level,
-        head,
+        marks: with_beat(marks, b, v),
     }
 }

@@ -8,14 +8,14 @@ use Rattle.beat.specs.Beat.{BeatIs}
 use Rattle.score.specs.declared.Fretboard.{Fretboard}
 use Rattle.score.specs.declared.Kept.{Kept}
 use Rattle.score.specs.declared.Remembered.{Remembered}
-use Rattle.score.specs.declared.Tally.{Tally}
 use Rattle.score.specs.declared.Voice.{Voice}
 use Rattle.score.specs.Sounding.{sounding, remember}
 use Rattle.score.specs.Members.{Keyed, inOrder}
-use Rattle.score.specs.Page.{keepBeat, withFrets, runningAfter, addBeat}
+use Rattle.score.specs.Page.{keepBeat, withFrets, runningAfter, beatLosses, report, addBeat}
 use Rattle.words.specs.Words.{words}
 use Rattle.words.specs.Meant.{rowingOf, walkOf}
-use Rattle.enter.specs.Steps.{Sounded, soundedOf, sounded, rowing, textsWith, countWith, tallyWith}
+use Rattle.enter.specs.declared.Progress.{Progress}
+use Rattle.enter.specs.Steps.{Sounded, soundedOf, sounded, rowing, textsWith, countWith, tallyOf, progressWith}
 
 module _ (s : List ℕ) (place : Place) (flat : Bool) (b : BeatIs) (kept : Kept) (rows members points parts : List ℕ) where
   pub sounds : {board : Fretboard} {memory read voice : Voice} {running after : ℕ} {chord : List Keyed} {frets : List Remembered}
@@ -33,14 +33,17 @@ module _ (s : List ℕ) (place : Place) (flat : Bool) (b : BeatIs) (kept : Kept)
       let q : parts3 ≡ sounded s place flat b kept rows members points parts .parts = e10 ∙ rw (e9, e8, v, h, e3) in
       λ i. soundedOf (g i .rows) (g i .members) (g i .points) (q i) (g i .kept) (h i)
 
-module _ (s : List ℕ) (place : Place) (b : BeatIs) (tally : Tally) (bars rows members points texts parts : List ℕ) where
-  pub adds : {kept : Kept} {chord : List Keyed} {count : ℕ} {tally2 : Tally} {bars2 rows2 members2 points2 texts2 parts2 : List ℕ}
-      → soundedOf rows2 members2 points2 parts2 kept chord ≡ sounded s place (tally .flat) b (tally .kept) rows members points parts
-      → texts2 ≡ textsWith s place b (tally .texts) texts → count ≡ countWith s place b (tally .texts) texts
-      → bars2 ≡ words s .tempoAt (place .bar) (b .mix .tempo) bars → tally2 ≡ tallyWith s b kept chord count tally
-      → walkOf bars2 rows2 members2 points2 texts2 parts2 tally2 ≡ addBeat (words s) (place .bar) (place .track) (place .voice) b (walkOf bars rows members points texts parts tally)
-  unfolding sounded addBeat tallyWith
-  adds {kept} {chord} {count} e1 e2 e3 e4 e5 =
+module _ (s : List ℕ) (place : Place) (b : BeatIs) (progress : Progress) (lost bars rows members points texts parts : List ℕ) where
+  pub adds : {kept : Kept} {chord : List Keyed} {count : ℕ} {progress2 : Progress} {lost2 bars2 rows2 members2 points2 texts2 parts2 : List ℕ}
+      → soundedOf rows2 members2 points2 parts2 kept chord ≡ sounded s place (progress .flat) b (progress .kept) rows members points parts
+      → texts2 ≡ textsWith s place b (progress .texts) texts → count ≡ countWith s place b (progress .texts) texts
+      → bars2 ≡ words s .tempoAt (place .bar) (b .mix .tempo) bars → lost2 ≡ report (words s) (beatLosses (words s) b chord) lost
+      → progress2 ≡ progressWith s b kept count progress
+      → walkOf bars2 rows2 members2 points2 texts2 parts2 (tallyOf progress2 lost2)
+      ≡ addBeat (words s) (place .bar) (place .track) (place .voice) b (walkOf bars rows members points texts parts (tallyOf progress lost))
+  unfolding sounded addBeat progressWith
+  adds {kept} {chord} {count} e1 e2 e3 e4 e5 e6 =
       let k : kept ≡ _ = ap (λ (x : Sounded). x .kept) e1 in
       let h : chord ≡ _ = ap (λ (x : Sounded). x .chord) e1 in
-      λ i. walkOf (e4 i) (e1 i .rows) (e1 i .members) (e1 i .points) (e2 i) (e1 i .parts) ((e5 ∙ (λ j. tallyWith s b (k j) (h j) (e3 j) tally)) i)
+      λ i. walkOf (e4 i) (e1 i .rows) (e1 i .members) (e1 i .points) (e2 i) (e1 i .parts)
+      (tallyOf ((e6 ∙ (λ j. progressWith s b (k j) (e3 j) progress)) i) ((e5 ∙ (λ j. report (words s) (beatLosses (words s) b (h j)) lost)) i))

@@ -11,11 +11,12 @@ use Rattle.score.specs.declared.Kept.{Kept}
 use Rattle.score.specs.declared.Voice.{Voice}
 use Rattle.score.specs.Sounding.{Sounding, sounding, remember}
 use Rattle.score.specs.Members.{Keyed, inOrder}
-use Rattle.score.specs.Page.{TextIs, Rowing, keepBeat, withFrets, runningAfter, hasText, keepText, textsAfter, bendRooms, report, beatLosses}
+use Rattle.score.specs.Page.{TextIs, Rowing, keepBeat, withFrets, runningAfter, hasText, keepText, textsAfter, bendRooms}
 use Rattle.score.specs.declared.Tally.{Tally}
 use Rattle.format.specs.Text.{pick}
 use Rattle.words.specs.Words.{Words, words, wordPlus}
 use Rattle.words.specs.Meant.{rowingOf}
+use Rattle.enter.specs.declared.Progress.{Progress}
 
 pub record Sounded : Type 0 where
   pub rows : List ℕ
@@ -73,15 +74,26 @@ module _ (s : List ℕ) (place : Place) (b : BeatIs) (count : ℕ) (texts : List
 abbrev pub textRoom : List ℕ → BeatIs → ℕ → ℕ
 textRoom s b room = pick (hasText b) (wordPlus room 1) room
 
-unfoldable pub tallyWith : List ℕ → BeatIs → Kept → List Keyed → (texts : ℕ) → Tally → Tally
-tallyWith s b kept chord texts tally =
+-- what is counted, with the losses
+abbrev pub tallyOf : Progress → List ℕ → Tally
+tallyOf p lost =
+    record {
+      kept = p .kept;
+      texts = p .texts;
+      «text_room» = p .«text_room»;
+      «point_room» = p .«point_room»;
+      flat = p .flat;
+      losses = lost;
+    }
+
+unfoldable pub progressWith : List ℕ → BeatIs → Kept → (texts : ℕ) → Progress → Progress
+progressWith s b kept texts p =
     record {
       kept = kept;
       texts = texts;
-      «text_room» = textRoom s b (tally .«text_room»);
-      «point_room» = wordPlus (tally .«point_room») (bendRooms (b .strings) 0 (b .notes));
-      flat = tally .flat;
-      losses = report (words s) (beatLosses (words s) b chord) (tally .losses);
+      «text_room» = textRoom s b (p .«text_room»);
+      «point_room» = wordPlus (p .«point_room») (bendRooms (b .strings) 0 (b .notes));
+      flat = p .flat;
     }
 
 -- ---- a bar with this key is entered

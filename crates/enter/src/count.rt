@@ -1,20 +1,20 @@
 // A beat is only counted: the rows and members that it makes, and the rooms that it needs.
 ghost use mathlib.Core.Path.{_≡_};
-ghost use mathlib.Core.List.{map};
-ghost use Prim.Native.Nat.{_≤_};
-ghost use Rattle.format.specs.Text.{pick};
-ghost use Rattle.beat.specs.Beat.{beatIn};
-ghost use Rattle.note.specs.Note.{noteIn};
-ghost use Rattle.score.specs.Sounding.{soundsOn};
+ghost use mathlib.Core.List.{List};
+ghost use Prim.Native.Nat.{ℕ, _≤_};
+ghost use Rattle.beat.specs.Words.{beatIn};
 ghost use Rattle.words.specs.Counted.{oneNote, oneGrace, graceOf, graced, keptWith, keptOf, stringsOn, countTally};
 ghost use Rattle.words.specs.Counted as spec;
-use beat::Beat;
-use draft::sounding::sounds;
-use note::Note;
+ghost use Rattle.enter.specs.Steps.{tallyOf};
+use crate::Progress;
+use beat::places::Beat;
+use draft::sounding::that_sound;
+use note::field;
 use note::marks::GraceNote;
-use score::Fretboard;
+use note::notes::first_string;
+use note::notes::other_strings;
+use note::places::Notes;
 use score::Kept;
-use score::Tally;
 use words::plus;
 
 // How many notes sound, and how many graces stand before them.
@@ -33,40 +33,25 @@ fn one_grace(grace: GraceNote) -> u32
     }
 }
 
-fn string_heard(board: Fretboard, bits: u8, i: usize, grace: GraceNote) -> Heard
-    ensures notes { λ r. ⌜ r .notes ≡ pick (soundsOn (board .strings .count) bits i) 1 0 ⌝ }
-    ensures graces { λ r. ⌜ r .graces ≡ pick (soundsOn (board .strings .count) bits i) (oneGrace grace) 0 ⌝ }
-    ensures most { λ r. ⌜ (r .notes ≤ 1) × (r .graces ≤ 1) ⌝ }
+// `strings`: how many the track has.
+fn heard_of(b: &Beat, notes: &Notes, strings: u8) -> Heard
+    ensures notes { λ r. ⌜ ((s : List ℕ) (v : ℕ) → r .notes ≡ spec.heard oneNote (beatIn s v (now (b .entry)) (now (notes .entry)) .strings) strings 0 (beatIn s v (now (b .entry)) (now (notes .entry)) .notes)) ⌝ }
+    ensures graces { λ r. ⌜ ((s : List ℕ) (v : ℕ) → r .graces ≡ spec.heard graceOf (beatIn s v (now (b .entry)) (now (notes .entry)) .strings) strings 0 (beatIn s v (now (b .entry)) (now (notes .entry)) .notes)) ⌝ }
 {
-    if sounds(board, bits, i) {
-        return Heard {
-            notes: 1,
-            graces: one_grace(grace),
-        };
+    let mut count: u32 = 0;
+    let mut graces: u32 = 0;
+    let mut left = that_sound(beat::field::strings(b), strings);
+    while left != 0 {
+        let string = first_string(left);
+        let grace = field::grace(notes, string);
+        count += 1;
+        graces += one_grace(grace);
+        left = other_strings(left, string);
     }
     Heard {
-        notes: 0,
-        graces: 0,
+        notes: count,
+        graces,
     }
-}
-
-fn heard_of(s: &[u8], board: Fretboard, bits: u8, list: [Note; 7]) -> Heard
-    ensures notes { λ r. ⌜ r .notes ≡ spec.heard oneNote bits (board .strings .count) 0 (map (noteIn (now (s .entry))) list) ⌝ }
-    ensures graces { λ r. ⌜ r .graces ≡ spec.heard graceOf bits (board .strings .count) 0 (map (noteIn (now (s .entry))) list) ⌝ }
-{
-    let mut notes: u32 = 0;
-    let mut graces: u32 = 0;
-    let mut i: usize = 0;
-    while i < 7 {
-        let note = list[i];
-        let effects = note.read.effects;
-        let grace = effects.grace;
-        let more = string_heard(board, bits, i, grace);
-        notes += more.notes;
-        graces += more.graces;
-        i += 1;
-    }
-    Heard { notes, graces }
 }
 
 // A row for the graces, where there are any.
@@ -94,31 +79,35 @@ fn kept_with(kept: Kept, heard: Heard) -> Kept
     }
 }
 
-fn kept_of(s: &[u8], board: Fretboard, beat: Beat, kept: Kept) -> Kept
-    ensures { λ r. ⌜ r ≡ keptOf (board .strings .count) (beatIn (now (s .entry)) beat) kept ⌝ }
+fn kept_of(b: &Beat, notes: &Notes, strings: u8, kept: Kept) -> Kept
+    ensures { λ r. ⌜ ((s : List ℕ) (v : ℕ) → r ≡ keptOf strings (beatIn s v (now (b .entry)) (now (notes .entry))) kept) ⌝ }
 {
-    let head = beat.head;
-    if head.kept {
-        let notes = beat.notes;
-        return kept_with(kept, heard_of(s, board, beat.strings, notes));
+    if beat::field::kept(b) {
+        return kept_with(kept, heard_of(b, notes, strings));
     }
     kept
 }
 
 // Nothing is remembered of a track but what it is played on.
-pub fn count_beat(s: &[u8], track: usize, beat: Beat, tally: Tally, parts: &[u32]) -> Tally
-    ensures { λ r. ⌜ r ≡ countTally (stringsOn track (now (parts .entry))) (beatIn (now (s .entry)) beat) tally ⌝ }
+pub fn count_beat(
+    s: &[u8],
+    track: usize,
+    b: &Beat,
+    notes: &Notes,
+    progress: Progress,
+    parts: &[u32],
+) -> Progress
+    ensures { λ r. ⌜ ((v : ℕ) (lost : List ℕ) → tallyOf r lost ≡ countTally (stringsOn track (now (parts .entry))) (beatIn (now (s .entry)) v (now (b .entry)) (now (notes .entry))) (tallyOf progress lost)) ⌝ }
 {
     let board = tracks::parts::board_at(parts, track);
-    let before = tally.kept;
-    let losses = tally.losses;
-    let kept = kept_of(s, board, beat, before);
-    Tally {
+    let strings = board.strings;
+    let before = progress.kept;
+    let kept = kept_of(b, notes, strings.count, before);
+    Progress {
         kept,
-        texts: tally.texts,
-        text_room: crate::text_room(s, tally.text_room, beat),
-        point_room: plus(tally.point_room, losses::rooms::bend_rooms(s, beat)),
-        flat: tally.flat,
-        losses,
+        texts: progress.texts,
+        text_room: crate::text_room(s, progress.text_room, b),
+        point_room: plus(progress.point_room, losses::rooms::bend_rooms(b, notes)),
+        flat: progress.flat,
     }
 }

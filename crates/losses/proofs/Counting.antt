@@ -1,103 +1,129 @@
 -- The losses of the song and of a beat, one after another. Assumes nothing.
-use Prim.Native.Nat.{ℕ, suc, _+_, _<_}
+use Prim.Native.Nat.{ℕ, zero, suc, _+_, _%_, _≤_, _<_}
 use mathlib.Core.Path.{_≡_, refl, sym, _∙_}
 use mathlib.Core.Bool.{Bool, true, false}
 use mathlib.Core.List.{List, [], _∷_, _++_, map, append-nil}
 use native.Mathlib.Omega.{arith}
-use native.Mathlib.Nat.{zero-add, min-le-left}
+use native.Mathlib.Nat.{zero-add}
 use native.Mathlib.Numerals.{add-one}
 use borrow.Author.Tests.{ne-eqb}
 use lib.Dec.{eqb}
-use lib.ListN.{length, getD, take, drop, length-take, length-map}
-use lib.Seq.{drop-cons, getD-take}
+use lib.ListN.{length, getD, set, drop}
+use lib.Seq.{drop-cons, set-getD}
 use Rattle.format.specs.Text.{pick}
+use Rattle.format.specs.Prog.{has}
 use Rattle.model.specs.declared.Loss.{Loss}
-use Rattle.model.specs.declared.Loss.the-variants.{OnBeatGrace}
+use Rattle.model.specs.declared.Loss.the-variants as L
+use Rattle.model.specs.Answers.{lossNumber}
 use Rattle.note.specs.declared.marks.GraceNote.{GraceNote}
 use Rattle.note.specs.declared.marks.GraceNote.the-variants.{NoGrace, Before}
-use Rattle.note.specs.declared.Note.{Note}
-use Rattle.format.specs.Prog.{has}
+use Rattle.note.specs.Note.{NoteIs, noNote}
 use Rattle.note.specs.Notes.{stringBit}
-use Rattle.note.specs.Note.{noteIn}
+use Rattle.note.specs.Words.{start, noteIn, readIn, stringNote, notesIn, overFrom, overStrings}
+use Rattle.note.proofs.Strings.{low-bits}
 use Rattle.beat.specs.Beat.{BeatIs}
 use Rattle.score.specs.Members.{Keyed, Graced, gracedAfter, graces}
 use Rattle.score.specs.Bars.{oneIf}
 use Rattle.score.specs.Losses.{reportIf, reported, noteLosses, notesLosses, readingLosses, builtLosses, memberLosses, graceLosses, isRest, buildingLosses}
 use Rattle.score.specs.Page.{report, beatLosses}
-use Rattle.draft.specs.declared.Struck.{Struck}
-use Rattle.draft.specs.declared.Chord.{Chord}
-use Rattle.draft.specs.Meant.{struckIn, chordIn}
-use Rattle.draft.specs.Chord.{silent}
-use Rattle.draft.proofs.Notes.{note-in}
-use Rattle.words.specs.Words.{words}
+use Rattle.draft.specs.Chord.{stringOf, keyedIn, chordIn}
+use Rattle.words.specs.Words.{wordPlus, words}
 use Rattle.words.specs.Reports.{reports}
-use Rattle.words.proofs.Reports.{reports-in, reports-append}
+use Rattle.words.proofs.Reports.{reports-in, reports-none, reports-append}
 use Rattle.losses.specs.Graces.{onBeat}
 
--- an array of structs is as long as its elements' values
-pub unmapped : {X Y : Type 0} (f : X → Y) (l : List X) (n : ℕ) → length (map f l) ≡ n → length l ≡ n
-unmapped f l n e = simp length-map at e
+pub numbered : (l : Loss) → lossNumber l < 17
+numbered L.DrumKit = omega arith
+numbered L.HarmonicType = omega arith
+numbered L.LetRingWithPalmMute = omega arith
+numbered L.OnBeatGrace = omega arith
+numbered L.RepeatCount = omega arith
+numbered L.TripletFeel = omega arith
+numbered L.UnsupportedChordDiagram = omega arith
+numbered L.UnsupportedDirection = omega arith
+numbered L.UnsupportedFingering = omega arith
+numbered L.UnsupportedMixChange = omega arith
+numbered L.UnsupportedRasgueado = omega arith
+numbered L.UnsupportedRightHandFingering = omega arith
+numbered L.UnsupportedSlideType = omega arith
+numbered L.UnsupportedTapping = omega arith
+numbered L.UnsupportedVolumeSwell = omega arith
+numbered L.UnsupportedWah = omega arith
+numbered L.UnsupportedWhammy = omega arith
+
+-- one report or none, stored in both cases
+pub reported-if : (lost : Bool) (l : Loss) (counts : List ℕ) →
+    set counts (lossNumber l) (pick lost (wordPlus (getD counts (lossNumber l) 0) 1) (getD counts (lossNumber l) 0))
+    ≡ reports (reportIf lost l) counts
+unfolding reports
+reported-if true l counts = refl
+reported-if false l counts = set-getD counts (lossNumber l) 0
 
 -- a number of reports is one and the others
 pub sign-next : (lost : Bool) (n : ℕ) (l : Loss) → reported (oneIf lost + n) l ≡ reportIf lost l ++ reported n l
 sign-next true n l = let e : 1 + n ≡ suc n = omega arith in rw e
 sign-next false n l = rw zero-add
 
--- ---- the notes of a beat, from one string on
+-- ---- the notes of a beat, string by string
 
-module _ (s : List ℕ) (strings : ℕ) (notes : List Note) (d : Note) where
-  abbrev stringLosses : ℕ → List Loss
-  stringLosses i = pick (has strings (stringBit i)) (noteLosses (getD notes i d .read)) []
+abbrev pub oneNote : (v : ℕ) → (w : List ℕ) → ℕ → List ℕ → List ℕ
+oneNote v w i counts = reports (noteLosses (readIn v w i)) counts
 
-  pub notes-next : (i : ℕ) (counts : List ℕ) → i < length notes
-      → reports (notesLosses strings i (map (noteIn s) (drop i notes))) counts
-      ≡ reports (notesLosses strings (i + 1) (map (noteIn s) (drop (i + 1) notes))) (reports (stringLosses i) counts)
-  notes-next i counts h = rw (drop-cons notes i d h, reports-append, add-one i)
+module _ (s : List ℕ) (v strings : ℕ) (w : List ℕ) where
+  -- n notes, from string k on
+  abbrev pub notesFrom : (n k : ℕ) → List NoteIs
+  notesFrom zero k = []
+  notesFrom (suc n) k = stringNote s v strings w k ∷ notesFrom n (k + 1)
+
+  one : (read : Bool) (i : ℕ) (counts : List ℕ)
+      → pick read (oneNote v w i counts) counts
+      ≡ reports (pick read (noteLosses (pick read (noteIn s v w (start i)) noNote .read)) []) counts
+  one true i counts = refl
+  one false i counts = sym (reports-none counts)
+
+  from-string : (n k : ℕ) (counts : List ℕ) → k + n ≤ 7 → strings < 256
+      → overFrom n k (strings % 128) (oneNote v w) counts ≡ reports (notesLosses strings k (notesFrom n k)) counts
+  unfolding overFrom stringNote
+  from-string zero k counts l h = sym (reports-none counts)
+  from-string (suc n) k counts l h =
+      rw (low-bits strings h k (omega arith), one (has strings (stringBit k)) k counts, reports-append)
+      (from-string n (k + 1) _ (omega arith) h)
+
+  pub strings-losses : (counts : List ℕ) → strings < 256
+      → overStrings (strings % 128) (oneNote v w) counts ≡ reports (notesLosses strings 0 (notesIn s v strings w)) counts
+  unfolding overStrings notesIn
+  strings-losses counts h = from-string 7 0 counts (omega arith) h
 
 -- ---- the notes of a chord, from one on
 
 grace-next : (g : GraceNote) (x : Keyed) (gs : List Graced)
-    → graceLosses (gracedAfter g x gs) ≡ reportIf (onBeat g) OnBeatGrace ++ graceLosses gs
+    → graceLosses (gracedAfter g x gs) ≡ reportIf (onBeat g) L.OnBeatGrace ++ graceLosses gs
 grace-next NoGrace x gs = refl
 grace-next (Before g) x gs = refl
 
-module _ (s : List ℕ) (notes : List Note) (chord : Chord) (d : Struck) where
-  abbrev chordNotes : List Struck
-  chordNotes = take (chord .count) (chord .notes)
+module _ (s : List ℕ) (v : ℕ) (w chord counts : List ℕ) (i : ℕ) (h : i < length chord) where
+  pub members-next : reports (memberLosses (chordIn s v w (drop i chord))) counts
+      ≡ reports (memberLosses (chordIn s v w (drop (i + 1) chord)))
+      (reports (builtLosses (readIn v w (stringOf (getD chord i 0)))) counts)
+  unfolding chordIn
+  members-next =
+      rw (drop-cons chord i 0 h, add-one i)
+      (reports-append (builtLosses (readIn v w (stringOf (getD chord i 0)))) _ counts)
 
-  abbrev noteAt : ℕ → Note
-  noteAt i = getD notes (getD (chord .notes) i d .string) silent
-
-  first : (i : ℕ) → i < length chordNotes → drop i chordNotes ≡ getD (chord .notes) i d ∷ drop (i + 1) chordNotes
-  first i h =
-      let n : ℕ = chord .count in
-      let e : i < n = omega (arith, length-take n (chord .notes), min-le-left n (length (chord .notes))) in
-      rw (add-one i, drop-cons chordNotes i d h, getD-take n (chord .notes) i d e)
-
-  pub members-next : (i : ℕ) (counts : List ℕ) → i < length chordNotes
-      → reports (memberLosses (map (struckIn s notes) (drop i chordNotes))) counts
-      ≡ reports (memberLosses (map (struckIn s notes) (drop (i + 1) chordNotes)))
-      (reports (builtLosses (noteAt i .read)) counts)
-  members-next i counts h =
-      rw (first i h, ← note-in s notes (getD (chord .notes) i d .string))
-      (reports-append (builtLosses (noteAt i .read)) _ counts)
-
-  pub graces-next : (i : ℕ) (counts : List ℕ) → i < length chordNotes
-      → reports (graceLosses (graces (map (struckIn s notes) (drop i chordNotes)))) counts
-      ≡ reports (graceLosses (graces (map (struckIn s notes) (drop (i + 1) chordNotes))))
-      (reports (reportIf (onBeat (noteAt i .read .effects .grace)) OnBeatGrace) counts)
-  graces-next i counts h =
-      rw (first i h, grace-next, ← note-in s notes (getD (chord .notes) i d .string), reports-append)
+  pub graces-next : reports (graceLosses (graces (chordIn s v w (drop i chord)))) counts
+      ≡ reports (graceLosses (graces (chordIn s v w (drop (i + 1) chord))))
+      (reports (reportIf (onBeat (readIn v w (stringOf (getD chord i 0)) .effects .grace)) L.OnBeatGrace) counts)
+  unfolding chordIn
+  graces-next = rw (drop-cons chord i 0 h, add-one i, grace-next, reports-append)
 
 -- a chord of no notes is a rest
-rest : (f : Struck → Keyed) (l : List Struck) → isRest (map f l) ≡ eqb (length l) 0
+rest : (f : ℕ → Keyed) (l : List ℕ) → isRest (map f l) ≡ eqb (length l) 0
 rest f [] = refl
 rest f (x ∷ l) = sym (ne-eqb (suc (length l)) 0 (λ e. omega arith))
 
-pub chord-rest : (s : List ℕ) (notes : List Note) (chord : Chord)
-    → isRest (chordIn s notes chord) ≡ eqb (length (take (chord .count) (chord .notes))) 0
+pub chord-rest : (s : List ℕ) (v : ℕ) (w chord : List ℕ) → isRest (chordIn s v w chord) ≡ eqb (length chord) 0
 unfolding chordIn
-chord-rest s notes chord = rest (struckIn s notes) (take (chord .count) (chord .notes))
+chord-rest s v w chord = rest (keyedIn s v w) chord
 
 -- ---- a beat, kept or not
 

@@ -1,25 +1,26 @@
 -- Sums as far as a word goes, the rooms that are added so, and whether a text is there. Assumes nothing.
-use Prim.Native.Nat.{ℕ, zero, suc, _+_, _≤_, _<_}
+use Prim.Native.Nat.{ℕ, zero, suc, _+_, _%_, _≤_, _<_}
 use mathlib.Core.Path.{_≡_, refl, sym, _∙_}
-use mathlib.Core.List.{List, [], _∷_, map}
+use mathlib.Core.List.{List, [], _∷_}
 use mathlib.Core.Bool.{Bool, true, false, not, _&&_}
 use native.Mathlib.Omega.{arith}
 use native.Mathlib.Decide.{decLe}
 use native.Mathlib.Nat.{zero-add, add-zero}
-use native.Mathlib.Numerals.{add-one}
 use borrow.Author.Tests.{le-leb, lt-leb, lt-ltb}
 use lib.Dec.{ltb, leb·suc-suc, leb·suc-zero}
-use lib.ListN.{length, getD, drop}
-use lib.Seq.{slice, drop-cons, drop-nil}
+use lib.ListN.{length}
+use lib.Seq.{slice, drop-nil}
 use Rattle.format.specs.Text.{pick}
 use Rattle.note.specs.declared.bend.Bend.{Bend}
-use Rattle.note.specs.declared.Note.{Note}
 use Rattle.format.specs.Prog.{has}
 use Rattle.note.specs.Notes.{stringBit}
-use Rattle.note.specs.Note.{noteIn}
+use Rattle.note.specs.Note.{noNote}
+use Rattle.note.specs.Words.{start, byteIn, noteIn, bendAt, stringNote, notesIn, overFrom, overStrings}
+use Rattle.note.proofs.Strings.{low-bits}
 use Rattle.note.specs.Points.{pointsAt, bendIn}
 use Rattle.score.specs.Page.{bendRoom, bendRooms, emptyBytes}
 use Rattle.words.specs.Words.{LARGEST, wordPlus}
+use Rattle.losses.proofs.Counting.{notesFrom}
 
 plus-fits : (a b : ℕ) → a + b ≤ LARGEST → wordPlus a b ≡ a + b
 unfolding wordPlus
@@ -33,6 +34,12 @@ unfolding wordPlus
 plus-full a b h = elim (decLe (a + b) LARGEST) [
   | yes d ↦ rw (le-leb (a + b) LARGEST d) (omega arith)
   | no d ↦ rw (lt-leb (a + b) LARGEST (omega arith))
+]
+
+plus-bound : (a b : ℕ) → wordPlus a b ≤ LARGEST
+plus-bound a b = elim (decLe (a + b) LARGEST) [
+  | yes d ↦ omega (arith, plus-fits a b d)
+  | no d ↦ omega (arith, plus-full a b (omega arith))
 ]
 
 same-sum : (a b c d : ℕ) → a + b ≡ c + d → wordPlus a b ≡ wordPlus c d
@@ -69,17 +76,34 @@ unfolding pointsAt
 room s at zero h = absurd (h refl)
 room s at (suc n) h = rw (length-points s (at + 9) n) (same-sum (suc n) 2 0 (n + 3) (omega arith))
 
--- ---- the rooms of a beat, from one string on
+-- ---- the rooms of a beat, string by string
 
-module _ (s : List ℕ) (strings : ℕ) (notes : List Note) (d : Note) where
-  abbrev stringRoom : ℕ → ℕ
-  stringRoom i = pick (has strings (stringBit i)) (bendRoom (bendIn s (getD notes i d .bend))) 0
+pub byte-below : (w : List ℕ) (k : ℕ) → byteIn w k < 256
+unfolding byteIn
+byte-below w k = omega arith
 
-  pub rooms-next : (i rooms : ℕ) → i < length notes
-      → wordPlus rooms (bendRooms strings i (map (noteIn s) (drop i notes)))
-      ≡ wordPlus (wordPlus rooms (wordPlus 0 (stringRoom i)))
-      (bendRooms strings (i + 1) (map (noteIn s) (drop (i + 1) notes)))
-  rooms-next i rooms h = rw (plus-cut, plus-on, drop-cons notes i d h, add-one i)
+abbrev pub oneRoom : (s w : List ℕ) → ℕ → ℕ → ℕ
+oneRoom s w i rooms = wordPlus rooms (wordPlus 0 (bendRoom (bendIn s (bendAt w (start i)))))
+
+module _ (s : List ℕ) (v strings : ℕ) (w : List ℕ) where
+  one : (read : Bool) (i rooms : ℕ) → rooms ≤ LARGEST
+      → pick read (oneRoom s w i rooms) rooms
+      ≡ wordPlus rooms (pick read (bendRoom (pick read (noteIn s v w (start i)) noNote .bend)) 0)
+  one true i rooms h = plus-cut rooms (bendRoom (bendIn s (bendAt w (start i))))
+  one false i rooms h = sym (plus-none rooms h)
+
+  from-string : (n k rooms : ℕ) → k + n ≤ 7 → strings < 256 → rooms ≤ LARGEST
+      → overFrom n k (strings % 128) (oneRoom s w) rooms ≡ wordPlus rooms (bendRooms strings k (notesFrom s v strings w n k))
+  unfolding overFrom stringNote
+  from-string zero k rooms l h g = sym (plus-none rooms g)
+  from-string (suc n) k rooms l h g =
+      rw (low-bits strings h k (omega arith), one (has strings (stringBit k)) k rooms g, ← plus-on)
+      (from-string n (k + 1) _ (omega arith) h (plus-bound rooms _))
+
+  pub strings-rooms : strings < 256
+      → overStrings (strings % 128) (oneRoom s w) 0 ≡ wordPlus 0 (bendRooms strings 0 (notesIn s v strings w))
+  unfolding overStrings notesIn
+  strings-rooms h = from-string 7 0 0 (omega arith) h (omega arith)
 
 -- ---- a text that is there
 

@@ -1,38 +1,38 @@
 // Losses: each report adds one. Those of reading a beat count whether it is kept or not, those of building its row
 // only where it is.
 ghost use mathlib.Core.Path.{_≡_};
-ghost use mathlib.Core.List.{[], _++_, map};
-ghost use Prim.Native.Nat.{_≤_};
-ghost use lib.ListN.{length, take, replicate};
+ghost use mathlib.Core.List.{List, _++_};
+ghost use Prim.Native.Nat.{ℕ};
+ghost use lib.ListN.{replicate};
 ghost use Rattle.model.specs.declared.Loss.the-variants.{TripletFeel, UnsupportedDirection};
 ghost use Rattle.format.specs.Text.{pick};
-ghost use Rattle.format.specs.Prog.{has};
-ghost use Rattle.note.specs.Note.{noteIn};
-ghost use Rattle.note.specs.Notes.{stringBit};
-ghost use Rattle.beat.specs.Beat.{beatIn};
+ghost use Rattle.note.specs.Words.{readIn, notesIn};
+ghost use Rattle.beat.specs.Words.{effectsIn, mixIn, beatIn};
+ghost use Rattle.beat.specs.Words as meaning;
+ghost use Rattle.note.specs.Words.{byteIn};
 ghost use Rattle.score.specs.Members.{graces};
 ghost use Rattle.score.specs.Bars.{unsupported, otherSigns};
 ghost use Rattle.score.specs.Losses as rule;
 ghost use Rattle.score.specs.Page as page;
-ghost use Rattle.draft.specs.Meant.{chordIn};
-ghost use Rattle.words.specs.Words.{words};
+ghost use Rattle.draft.specs.Chord.{chordIn};
+ghost use Rattle.words.specs.Words.{words, wordPlus};
 ghost use Rattle.words.specs.Reports.{reports};
 ghost use Rattle.losses.specs.Graces.{onBeat};
-use beat::Beat;
-use beat::effects::BeatEffects;
-use beat::mix::Mix;
-use draft::Chord;
-use draft::voicing::size_of;
+use beat::places::Beat;
+use draft::chord;
 use model::Loss;
+use model::answers;
 use note::LeftHand;
-use note::NO_NOTE;
-use note::Note;
-use note::NoteRead;
+use note::field;
 use note::marks::GraceNote;
-use note::notes::string_bit;
+use note::notes::first_string;
+use note::notes::other_strings;
+use note::places::Notes;
 use words::report_if;
 
 pub mod rooms; // the rooms that a beat needs
+
+pub type Losses = [u32; 17];
 
 // ---- of the song
 
@@ -59,75 +59,101 @@ pub fn song_losses(swing: bool, directions: [u16; 19]) -> [u32; 17]
 
 // ---- of reading a beat
 
-fn effect_losses(losses: [u32; 17], effects: BeatEffects) -> [u32; 17]
-    ensures { λ r. ⌜ r ≡ reports (rule.effectLosses effects) losses ⌝ }
+fn counted_if(count: u32, lost: bool) -> u32
+    ensures { λ r. ⌜ r ≡ pick lost (wordPlus count 1) count ⌝ }
 {
-    let losses = report_if(losses, effects.swell_lost, Loss::UnsupportedVolumeSwell);
-    let losses = report_if(losses, effects.rasgueado_lost, Loss::UnsupportedRasgueado);
-    let losses = report_if(losses, effects.tapping_lost, Loss::UnsupportedTapping);
-    report_if(losses, effects.whammy_lost, Loss::UnsupportedWhammy)
+    if lost {
+        return words::plus(count, 1);
+    }
+    count
 }
 
-fn mix_losses(losses: [u32; 17], mix: Mix) -> [u32; 17]
-    ensures { λ r. ⌜ r ≡ reports (rule.mixLosses mix) losses ⌝ }
+// The word is stored whether there is a loss or not: a branch that is taken by chance costs more than a store.
+fn lose_if(losses: &mut Losses, lost: bool, loss: Loss)
+    ensures { λ _. ⌜ now (losses .exit) ≡ reports (rule.reportIf lost loss) (now (losses .entry)) ⌝ }
 {
-    let losses = report_if(losses, mix.wah_lost, Loss::UnsupportedWah);
-    report_if(losses, mix.change_lost, Loss::UnsupportedMixChange)
+    let n = answers::loss_number(loss);
+    losses[n] = counted_if(losses[n], lost);
 }
 
-fn note_losses(losses: [u32; 17], note: NoteRead) -> [u32; 17]
-    ensures { λ r. ⌜ r ≡ reports (rule.noteLosses note) losses ⌝ }
+fn effect_losses(losses: &mut Losses, b: &Beat, v: u32)
+    ensures { λ _. ⌜ now (losses .exit) ≡ reports (rule.effectLosses (effectsIn v (now (b .entry)))) (now (losses .entry)) ⌝ }
 {
-    let effects = note.effects;
-    let slide = effects.slide;
-    let losses = report_if(
+    lose_if(
         losses,
-        note.right_hand_lost,
+        beat::field::swell_lost(b),
+        Loss::UnsupportedVolumeSwell,
+    );
+    lose_if(
+        losses,
+        beat::field::rasgueado_lost(b),
+        Loss::UnsupportedRasgueado,
+    );
+    lose_if(
+        losses,
+        beat::field::tapping_lost(b),
+        Loss::UnsupportedTapping,
+    );
+    lose_if(
+        losses,
+        beat::field::whammy_lost(b, v),
+        Loss::UnsupportedWhammy,
+    );
+}
+
+fn mix_losses(losses: &mut Losses, b: &Beat)
+    ensures { λ _. ⌜ now (losses .exit) ≡ reports (rule.mixLosses (mixIn (byteIn (now (b .entry)) meaning.FLAGS) (now (b .entry)))) (now (losses .entry)) ⌝ }
+{
+    lose_if(losses, beat::field::wah_lost(b), Loss::UnsupportedWah);
+    lose_if(
+        losses,
+        beat::field::change_lost(b),
+        Loss::UnsupportedMixChange,
+    );
+}
+
+fn note_losses(losses: &mut Losses, notes: &Notes, string: usize, v: u32)
+    ensures { λ _. ⌜ now (losses .exit) ≡ reports (rule.noteLosses (readIn v (now (notes .entry)) string)) (now (losses .entry)) ⌝ }
+{
+    let slide = field::slide(notes, string, v);
+    lose_if(
+        losses,
+        field::right_hand_lost(notes, string),
         Loss::UnsupportedRightHandFingering,
     );
-    let losses = report_if(losses, slide.lost, Loss::UnsupportedSlideType);
-    report_if(losses, effects.harmonic_lost, Loss::HarmonicType)
-}
-
-// A note that is read, also on a string that the track does not have.
-fn string_losses(losses: [u32; 17], strings: u8, i: usize, note: NoteRead) -> [u32; 17]
-    ensures { λ r. ⌜ r ≡ reports (pick (has strings (stringBit i)) (rule.noteLosses note) []) losses ⌝ }
-{
-    if strings & string_bit(i) != 0 {
-        return note_losses(losses, note);
-    }
-    losses
-}
-
-fn notes_losses(s: &[u8], losses: [u32; 17], strings: u8, notes: [Note; 7]) -> [u32; 17]
-    ensures { λ r. ⌜ r ≡ reports (rule.notesLosses strings 0 (map (noteIn (now (s .entry))) notes)) losses ⌝ }
-{
-    let mut counts = losses;
-    let mut i: usize = 0;
-    while i < 7 {
-        let note = notes[i];
-        let more = string_losses(counts, strings, i, note.read);
-        counts = more;
-        i += 1;
-    }
-    counts
-}
-
-fn reading_losses(s: &[u8], losses: [u32; 17], beat: Beat) -> [u32; 17]
-    ensures { λ r. ⌜ r ≡ reports (rule.readingLosses (beatIn (now (s .entry)) beat)) losses ⌝ }
-{
-    let head = beat.head;
-    let effects = beat.effects;
-    let mix = beat.mix;
-    let notes = beat.notes;
-    let losses = report_if(
+    lose_if(losses, slide.lost, Loss::UnsupportedSlideType);
+    lose_if(
         losses,
-        head.flags & 0x02 != 0,
+        field::harmonic_lost(notes, string),
+        Loss::HarmonicType,
+    );
+}
+
+// Of every note that is read, also on a string that the track does not have.
+fn notes_losses(losses: &mut Losses, strings: u8, notes: &Notes, v: u32)
+    ensures { λ _. ⌜ ((s : List ℕ) → now (losses .exit)
+        ≡ reports (rule.notesLosses strings 0 (notesIn s v strings (now (notes .entry)))) (now (losses .entry))) ⌝ }
+{
+    let mut left = (strings % 128) as u32;
+    while left != 0 {
+        let string = first_string(left);
+        note_losses(losses, notes, string, v);
+        left = other_strings(left, string);
+    }
+}
+
+fn reading_losses(losses: &mut Losses, b: &Beat, notes: &Notes, v: u32)
+    ensures { λ _. ⌜ ((s : List ℕ) → now (losses .exit)
+        ≡ reports (rule.readingLosses (beatIn s v (now (b .entry)) (now (notes .entry)))) (now (losses .entry))) ⌝ }
+{
+    lose_if(
+        losses,
+        beat::field::flags(b) & 0x02 != 0,
         Loss::UnsupportedChordDiagram,
     );
-    let losses = effect_losses(losses, effects);
-    let losses = mix_losses(losses, mix);
-    notes_losses(s, losses, beat.strings, notes)
+    effect_losses(losses, b, v);
+    mix_losses(losses, b);
+    notes_losses(losses, beat::field::strings(b), notes, v);
 }
 
 // ---- of building its row
@@ -151,76 +177,59 @@ fn on_beat(grace: GraceNote) -> bool
     }
 }
 
-fn built_losses(losses: [u32; 17], note: NoteRead) -> [u32; 17]
-    ensures { λ r. ⌜ r ≡ reports (rule.builtLosses note) losses ⌝ }
+fn built_losses(losses: &mut Losses, notes: &Notes, string: usize)
+    ensures { λ _. ⌜ ((v : ℕ) → now (losses .exit) ≡ reports (rule.builtLosses (readIn v (now (notes .entry)) string)) (now (losses .entry))) ⌝ }
 {
-    let effects = note.effects;
-    let hand = note.left_hand;
-    let losses = report_if(
-        losses,
-        effects.palm_mute & effects.let_ring,
-        Loss::LetRingWithPalmMute,
-    );
-    report_if(losses, is_beyond(hand), Loss::UnsupportedFingering)
+    let rung = field::palm_mute(notes, string) & field::let_ring(notes, string);
+    lose_if(losses, rung, Loss::LetRingWithPalmMute);
+    let hand = field::left_hand(notes, string);
+    lose_if(losses, is_beyond(hand), Loss::UnsupportedFingering);
 }
 
-fn member_losses(s: &[u8], losses: [u32; 17], notes: [Note; 7], chord: Chord) -> [u32; 17]
-    ensures { λ r. ⌜ r ≡ reports (rule.memberLosses (chordIn (now (s .entry)) notes chord)) losses ⌝ }
+fn member_losses(losses: &mut Losses, notes: &Notes, chord: &[u32])
+    ensures { λ _. ⌜ ((s : List ℕ) (v : ℕ) → now (losses .exit)
+        ≡ reports (rule.memberLosses (chordIn s v (now (notes .entry)) (now (chord .entry)))) (now (losses .entry))) ⌝ }
 {
-    let n = size_of(chord);
-    let mut counts = losses;
     let mut i: usize = 0;
-    while i < n {
-        let struck = chord.notes[i];
-        let string = struck.string as usize;
-        let note = if string < 7 { notes[string] } else { NO_NOTE };
-        let more = built_losses(counts, note.read);
-        counts = more;
+    while i < chord.len() {
+        built_losses(losses, notes, chord::string_of(chord[i]));
         i += 1;
     }
-    counts
 }
 
-fn grace_losses(s: &[u8], losses: [u32; 17], notes: [Note; 7], chord: Chord) -> [u32; 17]
-    ensures { λ r. ⌜ r ≡ reports (rule.graceLosses (graces (chordIn (now (s .entry)) notes chord))) losses ⌝ }
+fn grace_losses(losses: &mut Losses, notes: &Notes, chord: &[u32])
+    ensures { λ _. ⌜ ((s : List ℕ) (v : ℕ) → now (losses .exit)
+        ≡ reports (rule.graceLosses (graces (chordIn s v (now (notes .entry)) (now (chord .entry))))) (now (losses .entry))) ⌝ }
 {
-    let n = size_of(chord);
-    let mut counts = losses;
     let mut i: usize = 0;
-    while i < n {
-        let struck = chord.notes[i];
-        let string = struck.string as usize;
-        let note = if string < 7 { notes[string] } else { NO_NOTE };
-        let effects = note.read.effects;
-        let grace = effects.grace;
-        let more = report_if(counts, on_beat(grace), Loss::OnBeatGrace);
-        counts = more;
+    while i < chord.len() {
+        let grace = field::grace(notes, chord::string_of(chord[i]));
+        lose_if(losses, on_beat(grace), Loss::OnBeatGrace);
         i += 1;
     }
-    counts
 }
 
-fn building_losses(s: &[u8], losses: [u32; 17], beat: Beat, chord: Chord) -> [u32; 17]
-    ensures { λ r. ⌜ r ≡ reports (rule.buildingLosses (beatIn (now (s .entry)) beat) (chordIn (now (s .entry)) (beat .notes) chord)) losses ⌝ }
+fn building_losses(losses: &mut Losses, b: &Beat, notes: &Notes, chord: &[u32], v: u32)
+    ensures { λ _. ⌜ ((s : List ℕ) → now (losses .exit)
+        ≡ reports (rule.buildingLosses (beatIn s v (now (b .entry)) (now (notes .entry)))
+        (chordIn s v (now (notes .entry)) (now (chord .entry)))) (now (losses .entry))) ⌝ }
 {
-    let notes = beat.notes;
-    let effects = beat.effects;
-    let losses = member_losses(s, losses, notes, chord);
-    let losses = grace_losses(s, losses, notes, chord);
-    report_if(
+    member_losses(losses, notes, chord);
+    grace_losses(losses, notes, chord);
+    lose_if(
         losses,
-        (size_of(chord) != 0) & effects.artificial_harmonic,
+        (chord.len() != 0) & beat::field::artificial_harmonic(b, v),
         Loss::HarmonicType,
-    )
+    );
 }
 
-pub fn beat_losses(s: &[u8], losses: [u32; 17], beat: Beat, chord: Chord) -> [u32; 17]
-    ensures { λ r. ⌜ r ≡ page.report (words (now (s .entry))) (page.beatLosses (words (now (s .entry))) (beatIn (now (s .entry)) beat) (chordIn (now (s .entry)) (beat .notes) chord)) losses ⌝ }
+pub fn beat_losses(losses: &mut Losses, b: &Beat, notes: &Notes, chord: &[u32], v: u32)
+    ensures { λ _. ⌜ ((s : List ℕ) → now (losses .exit)
+        ≡ page.report (words s) (page.beatLosses (words s) (beatIn s v (now (b .entry)) (now (notes .entry)))
+        (chordIn s v (now (notes .entry)) (now (chord .entry)))) (now (losses .entry))) ⌝ }
 {
-    let head = beat.head;
-    let losses = reading_losses(s, losses, beat);
-    if !head.kept {
-        return losses;
+    reading_losses(losses, b, notes, v);
+    if beat::field::kept(b) {
+        building_losses(losses, b, notes, chord, v);
     }
-    building_losses(s, losses, beat, chord)
 }

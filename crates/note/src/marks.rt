@@ -1,12 +1,16 @@
 // The effects of a note, and its bend.
-ghost use mathlib.Core.Path.{_≡_};
-ghost use Rattle.format.specs.Place.{Reaches, Gives};
-ghost use Rattle.note.specs.Points.{bendIn};
+ghost use mathlib.Core.List.{List};
+ghost use Prim.Native.Nat.{ℕ, _+_, _≤_};
+ghost use Rattle.format.specs.Padded.{Padded, Near};
 ghost use Rattle.note.specs.Marks as format;
-use crate::bend::Bend;
-use crate::bend::BendRead;
-use crate::optional::byte_if;
-use crate::optional::skip_if;
+ghost use Rattle.note.specs.Points.{bendIn};
+ghost use Rattle.note.specs.Words as meaning;
+use crate::optional::pass_if;
+use crate::places;
+use crate::places::Notes;
+use crate::places::put;
+use crate::places::put_if;
+use crate::places::store;
 use curve::slide::SlideEffect;
 use format::Place;
 
@@ -27,12 +31,12 @@ pub enum Tremolo {
     Strokes(u8),
 }
 
-struct Harmonic {
-    given: bool,
-    lost: bool,
+pub struct Harmonic {
+    pub given: bool,
+    pub lost: bool,
 }
 
-// The effects of a note but for its bend.
+// The effects of a note but for its bend, as the format's definitions have them.
 pub struct NoteEffects {
     pub grace: GraceNote,
     pub tremolo: Tremolo,
@@ -47,272 +51,90 @@ pub struct NoteEffects {
     pub staccato: bool,
 }
 
-pub struct NoteEffectsRead {
-    pub marks: NoteEffects,
-    pub bend: Bend,
-    pub next: Place,
-}
-
-struct GraceRead {
-    grace: GraceNote,
-    next: Place,
-}
-
-struct TremoloRead {
-    tremolo: Tremolo,
-    next: Place,
-}
-
-struct SlideRead {
-    slide: SlideEffect,
-    next: Place,
-}
-
-struct HarmonicRead {
-    harmonic: Harmonic,
-    next: Place,
-}
-
-struct MarksRead {
-    marks: NoteEffects,
-    next: Place,
-}
-
-const NO_SLIDE: SlideEffect = SlideEffect {
-    slide: false,
-    falloff: false,
-    doit: false,
-    scoop: false,
-    plop: false,
-    lost: false,
-};
-
-const NO_HARMONIC: Harmonic = Harmonic {
-    given: false,
-    lost: false,
-};
-
-pub(crate) const NO_MARKS: NoteEffects = NoteEffects {
-    grace: GraceNote::NoGrace,
-    tremolo: Tremolo::NoTremolo,
-    slide: NO_SLIDE,
-    harmonic: false,
-    harmonic_lost: false,
-    trill: false,
-    let_ring: false,
-    hammer: false,
-    vibrato: false,
-    palm_mute: false,
-    staccato: false,
-};
-
-fn bend_at(s: &[u8], from: Place, flags: u8) -> BendRead
-    ensures { λ r. ⌜ Reaches (format.noteBend flags) (now (s .entry)) from (bendIn (now (s .entry)) (r .bend)) (r .next) ⌝ }
+// The bend's place and count are stored where there is one. It is read from place to place: a count of points may be refused.
+fn bend_at(s: &[u8], at: usize, first: u8, w: &mut Notes, o: usize) -> Place
+    requires { ⌜ o ≤ 126 ⌝ }
+    ensures { λ r. ⌜ meaning.FillsTo (format.noteBend first) (now (s .entry)) at (o + meaning.BEND-START) (now (w .entry)) (now (w .exit)) (bendIn (now (s .entry)) (meaning.bendBy first (now (w .exit)) o)) r ⌝ }
 {
-    if flags & 0x01 != 0 {
-        return crate::bend::read_bend(s, from);
-    }
-    BendRead {
-        bend: crate::bend::NO_BEND,
-        next: from,
-    }
-}
-
-fn grace_of(fret: u8, transition: u8, flags: u8) -> GraceNote
-    ensures { λ r. ⌜ r ≡ format.graceOf fret transition flags ⌝ }
-{
-    GraceNote::Before(Grace {
-        fret: curve::held::fret_of(fret),
-        transition,
-        dead: flags & 0x01 != 0,
-        on_beat: flags & 0x02 != 0,
-    })
-}
-
-fn grace_note(s: &[u8], from: Place, v: u32) -> GraceRead
-    ensures { λ r. ⌜ Reaches (format.graceNote v) (now (s .entry)) from (r .grace) (r .next) ⌝ }
-{
-    let fret = bin::u8_at(s, from);
-    let at = fret.next;
-    let transition = bin::u8_at(s, bin::skip_at(s, at, 1));
-    let at = transition.next;
-    let flags = byte_if(s, bin::skip_at(s, at, 1), 500 <= v, 0);
-    let next = flags.next;
-    GraceRead {
-        grace: grace_of(fret.value, transition.value, flags.value),
-        next,
-    }
-}
-
-fn grace_at(s: &[u8], from: Place, v: u32, flags: u8) -> GraceRead
-    ensures { λ r. ⌜ Reaches (format.grace v flags) (now (s .entry)) from (r .grace) (r .next) ⌝ }
-{
-    if flags & 0x10 != 0 {
-        return grace_note(s, from, v);
-    }
-    GraceRead {
-        grace: GraceNote::NoGrace,
-        next: from,
-    }
-}
-
-fn tremolo_at(s: &[u8], from: Place, more: u8) -> TremoloRead
-    ensures { λ r. ⌜ Reaches (format.tremolo more) (now (s .entry)) from (r .tremolo) (r .next) ⌝ }
-{
-    if more & 0x04 == 0 {
-        return TremoloRead {
-            tremolo: Tremolo::NoTremolo,
-            next: from,
-        };
-    }
-    let speed = bin::u8_at(s, from);
-    let next = speed.next;
-    TremoloRead {
-        tremolo: Tremolo::Strokes(curve::held::tremolo_of(speed.value)),
-        next,
-    }
-}
-
-fn slide_flag(v: u32, flags: u8) -> SlideEffect
-    ensures { λ r. ⌜ r ≡ format.slideFlag v flags ⌝ }
-{
-    SlideEffect {
-        slide: (v < 400) & (flags & 0x04 != 0),
-        falloff: false,
-        doit: false,
-        scoop: false,
-        plop: false,
-        lost: false,
-    }
-}
-
-fn slide_at(s: &[u8], from: Place, v: u32, flags: u8, more: u8) -> SlideRead
-    ensures { λ r. ⌜ Reaches (format.slide v flags more) (now (s .entry)) from (r .slide) (r .next) ⌝ }
-{
-    if more & 0x08 == 0 {
-        return SlideRead {
-            slide: slide_flag(v, flags),
-            next: from,
-        };
-    }
-    let b = bin::u8_at(s, from);
-    let next = b.next;
-    SlideRead {
-        slide: curve::slide::slide_of(v, b.value),
-        next,
-    }
-}
-
-fn harmonic_end(s: &[u8], from: Place, v: u32, kind: u8) -> Place
-    ensures { λ r. ⌜ Reaches (format.harmonicEnd v kind) (now (s .entry)) from tt r ⌝ }
-{
-    if v < 500 {
+    let from = bin::ahead::reached(s, at);
+    if first & 0x01 == 0 {
         return from;
     }
+    let read = crate::bend::read_bend(s, from);
+    let bend = read.bend;
+    store(w, o + places::BEND_START, bend.start);
+    store(w, o + places::BEND_COUNT, bend.count as usize);
+    read.next
+}
+
+fn grace_at(s: &[u8], at: usize, v: u32, first: u8, w: &mut Notes, o: usize) -> usize
+    requires { ⌜ Near 5 at × (o ≤ 126) ⌝ }
+    ensures { λ r. ⌜ meaning.Fills (format.grace v first) 5 (now (s .entry)) at (o + meaning.GRACE-FRET) (now (w .entry)) (now (w .exit)) (meaning.graceIn first (now (w .exit)) o) r ⌝ }
+{
+    if first & 0x10 == 0 {
+        return at;
+    }
+    put(w, o + places::GRACE_FRET, bin::ahead::byte(s, at));
+    put(w, o + places::TRANSITION, bin::ahead::byte(s, at + 2));
+    put_if(s, at + 4, 500 <= v, w, o + places::GRACE_FLAGS)
+}
+
+fn harmonic_end(at: usize, v: u32, kind: u8) -> usize
+    requires { ⌜ Near 3 at ⌝ }
+    ensures { λ r. ⌜ ((s : List ℕ) → Padded (format.harmonicEnd v kind) s at tt r) × (r ≤ at + 3) ⌝ }
+{
+    if v < 500 {
+        return at;
+    }
     if kind == 2 {
-        return bin::skip_at(s, from, 3);
+        return at + 3;
     }
     if kind == 3 {
-        return bin::skip_at(s, from, 1);
+        return at + 1;
     }
-    from
+    at
 }
 
-fn harmonic_at(s: &[u8], from: Place, v: u32, more: u8) -> HarmonicRead
-    ensures { λ r. ⌜ Reaches (format.harmonic v more) (now (s .entry)) from (r .harmonic) (r .next) ⌝ }
+fn harmonic_at(s: &[u8], at: usize, v: u32, more: u8, w: &mut Notes, o: usize) -> usize
+    requires { ⌜ Near 4 at × (o ≤ 126) ⌝ }
+    ensures { λ r. ⌜ meaning.Fills (format.harmonic v more) 4 (now (s .entry)) at (o + meaning.HARMONIC) (now (w .entry)) (now (w .exit)) (meaning.harmonicIn more (now (w .exit)) o) r ⌝ }
 {
     if more & 0x10 == 0 {
-        return HarmonicRead {
-            harmonic: NO_HARMONIC,
-            next: from,
-        };
+        return at;
     }
-    let kind = bin::u8_at(s, from);
-    let at = kind.next;
-    let next = harmonic_end(s, at, v, kind.value);
-    HarmonicRead {
-        harmonic: Harmonic {
-            given: true,
-            lost: kind.value != 1,
-        },
-        next,
-    }
+    let kind = bin::ahead::byte(s, at);
+    put(w, o + places::HARMONIC, kind);
+    harmonic_end(at + 1, v, kind)
 }
 
-fn marks_of(
-    flags: u8,
-    more: u8,
-    grace: GraceNote,
-    tremolo: Tremolo,
-    slide: SlideEffect,
-    harmonic: Harmonic,
-) -> NoteEffects
-    ensures { λ r. ⌜ r ≡ format.marksOf flags more grace tremolo slide harmonic ⌝ }
+fn marks_at(s: &[u8], at: usize, v: u32, first: u8, more: u8, w: &mut Notes, o: usize) -> usize
+    requires { ⌜ Near 13 at × (o ≤ 126) ⌝ }
+    ensures { λ r. ⌜ meaning.Fills (format.marks v first more) 13 (now (s .entry)) at (o + meaning.GRACE-FRET) (now (w .entry)) (now (w .exit)) (meaning.marksBy v first more (now (w .exit)) o) r ⌝ }
 {
-    NoteEffects {
-        grace,
-        tremolo,
-        slide,
-        harmonic: harmonic.given,
-        harmonic_lost: harmonic.lost,
-        trill: more & 0x20 != 0,
-        let_ring: flags & 0x08 != 0,
-        hammer: flags & 0x02 != 0,
-        vibrato: more & 0x40 != 0,
-        palm_mute: more & 0x02 != 0,
-        staccato: more & 0x01 != 0,
-    }
-}
-
-fn marks_at(s: &[u8], from: Place, v: u32, flags: u8, more: u8) -> MarksRead
-    ensures { λ r. ⌜ Reaches (format.marks v flags more) (now (s .entry)) from (r .marks) (r .next) ⌝ }
-{
-    let graced = grace_at(s, from, v, flags);
-    let at = graced.next;
-    let picked = tremolo_at(s, at, more);
-    let at = picked.next;
-    let slid = slide_at(s, at, v, flags, more);
-    let at = slid.next;
-    let read = harmonic_at(s, at, v, more);
-    let at = read.next;
-    let next = skip_if(s, at, more & 0x20 != 0, 2);
-    let grace = graced.grace;
-    let tremolo = picked.tremolo;
-    let slide = slid.slide;
-    let harmonic = read.harmonic;
-    MarksRead {
-        marks: marks_of(flags, more, grace, tremolo, slide, harmonic),
-        next,
-    }
+    let at = grace_at(s, at, v, first, w, o);
+    let at = put_if(s, at, more & 0x04 != 0, w, o + places::SPEED);
+    let at = put_if(s, at, more & 0x08 != 0, w, o + places::SLIDE);
+    let at = harmonic_at(s, at, v, more, w, o);
+    pass_if(at, more & 0x20 != 0, 2)
 }
 
 // The effects of a note, where its flags say that it has any.
-pub fn read_note_effects(s: &[u8], from: Place, v: u32, flags: u8) -> NoteEffectsRead
-    ensures { λ r. ⌜ Gives (format.noteEffects v flags) format.noNoteEffects (now (s .entry)) from (format.effectsIn (now (s .entry)) (r .marks) (r .bend)) (r .next) ⌝ }
+pub(crate) fn effects_at(s: &[u8], at: usize, v: u32, flags: u8, w: &mut Notes, o: usize) -> Place
+    requires { ⌜ Near 2 at × (o ≤ 126) ⌝ }
+    ensures { λ r. ⌜ meaning.FillsTo (format.noteEffects v flags) (now (s .entry)) at (o + meaning.FIRST) (now (w .entry)) (now (w .exit)) (meaning.effectsAt (now (s .entry)) v (now (w .exit)) o) r ⌝ }
 {
     if flags & 0x08 == 0 {
-        return NoteEffectsRead {
-            marks: NO_MARKS,
-            bend: crate::bend::NO_BEND,
-            next: from,
-        };
+        put(w, o + places::FIRST, 0);
+        put(w, o + places::MORE, 0);
+        return bin::ahead::reached(s, at);
     }
-    let first = bin::u8_at(s, from);
-    let at = first.next;
-    let more = byte_if(s, at, 400 <= v, 0);
-    let at = more.next;
-    let bent = bend_at(s, at, first.value);
-    let at = bent.next;
-    let read = marks_at(s, at, v, first.value, more.value);
-    let next = read.next;
-    let Place::At(_) = next else {
-        return NoteEffectsRead {
-            marks: NO_MARKS,
-            bend: crate::bend::NO_BEND,
-            next,
-        };
+    let first = bin::ahead::byte(s, at);
+    put(w, o + places::FIRST, first);
+    let at = put_if(s, at + 1, 400 <= v, w, o + places::MORE);
+    let more = places::byte_of(w, o + places::MORE);
+    let next = bend_at(s, at, first, w, o);
+    let Place::At(past) = next else {
+        return next;
     };
-    let marks = read.marks;
-    let bend = bent.bend;
-    NoteEffectsRead { marks, bend, next }
+    bin::ahead::reached(s, marks_at(s, past, v, first, more, w, o))
 }

@@ -1,54 +1,42 @@
 // The notes of a beat: at most seven, one for each string bit that is set.
 ghost use mathlib.Core.Path.{_≡_};
-ghost use mathlib.Core.List.{map};
-ghost use Rattle.format.specs.Place.{Gives};
-ghost use Rattle.note.specs.Note.{noteIn};
+ghost use Rattle.format.specs.Padded.{Arrives};
 ghost use Rattle.note.specs.Notes as format;
-use crate::Note;
+ghost use Rattle.note.specs.Words as meaning;
+use crate::places::Notes;
+use crate::places::start_of;
 use format::Place;
 
-pub struct NotesRead {
-    pub notes: [Note; 7],
-    pub next: Place,
+// The first of the strings of a set of bits, from bit 6 down; 7 where there is none.
+pub fn first_string(mask: u32) -> usize
+    ensures { λ r. ⌜ r ≡ meaning.firstString mask ⌝ }
+{
+    (u32::leading_zeros(mask % 128) - 25) as usize
 }
 
-pub const NO_NOTES: [Note; 7] = [crate::NO_NOTE; 7];
-
-// From bit 6 down to 0.
-pub fn string_bit(i: usize) -> u8
-    ensures { λ r. ⌜ r ≡ format.stringBit i ⌝ }
+// The strings after a string.
+pub fn other_strings(mask: u32, i: usize) -> u32
+    ensures { λ r. ⌜ r ≡ meaning.otherStrings mask i ⌝ }
 {
-    match i {
-        0 => 0x40,
-        1 => 0x20,
-        2 => 0x10,
-        3 => 0x08,
-        4 => 0x04,
-        5 => 0x02,
-        _ => 0x01,
+    mask & (63 >> ((i % 8) as u32))
+}
+
+pub fn read_notes(s: &[u8], from: usize, v: u32, strings: u8, w: &mut Notes) -> Place
+    ensures { λ r. ⌜ Arrives (format.notes v strings) (now (s .entry)) from (meaning.notesIn (now (s .entry)) v strings (now (w .exit))) r ⌝ }
+{
+    if s.len() < from {
+        return Place::Stopped(format::Stop::Ends);
     }
-}
-
-pub fn read_notes(s: &[u8], from: Place, v: u32, strings: u8) -> NotesRead
-    ensures { λ r. ⌜ Gives (format.notes v strings) format.noNotes (now (s .entry)) from (map (noteIn (now (s .entry))) (r .notes)) (r .next) ⌝ }
-{
-    let mut notes = NO_NOTES;
     let mut at = from;
-    let mut i = 0;
-    while i < 7 {
-        if strings & string_bit(i) != 0 {
-            let read = crate::read_note(s, at, v);
-            at = read.next;
-            let note = read.note;
-            notes[i] = note;
-        }
-        i += 1;
-    }
-    let Place::At(_) = at else {
-        return NotesRead {
-            notes: NO_NOTES,
-            next: at,
+    let mut mask = (strings % 128) as u32;
+    while mask != 0 {
+        let i = first_string(mask);
+        let next = crate::read_note(s, at, v, w, start_of(i));
+        let Place::At(past) = next else {
+            return next;
         };
-    };
-    NotesRead { notes, next: at }
+        at = past;
+        mask = other_strings(mask, i);
+    }
+    Place::At(at)
 }

@@ -18,10 +18,9 @@ use Rattle.score.specs.declared.Hammer.the-variants.{NoHammer, Waits}
 use Rattle.score.specs.declared.OttavaRun.{OttavaRun}
 use Rattle.score.specs.declared.OttavaRun.the-variants.{NoRun, Over}
 use Rattle.score.specs.Page as Page
-use Rattle.score.specs.Page.{addAll, startTies, turnHammer, turnRun, sameKind}
-use Rattle.draft.specs.declared.Draft.{Draft}
+use Rattle.score.specs.Page.{addAll, startTies, turnHammer, turnRun}
+use Rattle.score.specs.Rows.{RowIs}
 use Rattle.words.specs.Words.{answersWord, startWords, words}
-use Rattle.page.specs.Meant.{drawn, undrawn}
 
 -- a tie starts at the first member of some that answers, or at one of those after it
 module _ (i k : ℕ) (tied : Member) (t : List ℕ) {key string : ℕ} (more : 0 < k)
@@ -64,18 +63,10 @@ module _ (s : List ℕ) where
   ties-started last [] t = refl
   ties-started last (m ∷ ms) t = ties-started last ms _
 
-  module _ (curve : List Point) (d : Draft) where
-    pub hammer-turned : (h : Hammer) (t : List ℕ)
-        → turnHammer (words s) h (drawn curve d) t ≡ turnHammer (words []) h (undrawn d) t
-    hammer-turned NoHammer t = refl
-    hammer-turned (Waits n key) t = refl
+  pub hammer-turned : (h : Hammer) (r : RowIs) (t : List ℕ) → turnHammer (words s) h r t ≡ turnHammer (words []) h r t
+  hammer-turned NoHammer r t = refl
+  hammer-turned (Waits n key) r t = refl
 
-    pub run-turned : (run : OttavaRun) (t : List ℕ)
-        → turnRun (words s) run (drawn curve d) t ≡ turnRun (words []) run (undrawn d) t
-    run-turned NoRun t = refl
-    run-turned (Over n kind) t = refl
-
-pub same-kind : (curve : List Point) (d : Draft) (run : OttavaRun)
-    → sameKind (drawn curve d) run ≡ sameKind (undrawn d) run
-same-kind curve d NoRun = refl
-same-kind curve d (Over n kind) = refl
+  pub run-turned : (run : OttavaRun) (r : RowIs) (t : List ℕ) → turnRun (words s) run r t ≡ turnRun (words []) run r t
+  run-turned NoRun r t = refl
+  run-turned (Over n kind) r t = refl

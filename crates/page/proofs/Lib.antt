@@ -1,5 +1,7 @@
 pub mod Picked
-pub mod Taken
 pub mod Entering
 pub mod Curves
+pub mod Drawing
+pub mod Gathering
+pub mod Gracing
 pub mod Rowing

@@ -1,19 +1,37 @@
 -- Parts of the entry of a row, and of what is remembered after it. Assumes nothing.
 use Prim.Native.Nat.{ℕ}
-use mathlib.Core.List.{List}
+use mathlib.Core.Path.{_≡_}
+use mathlib.Core.List.{List, []}
 use lib.ListN.{length}
 use Rattle.model.specs.declared.Expression.{Expression}
-use Rattle.model.specs.declared.OttavaMarks.{OttavaMarks}
+use Rattle.model.specs.declared.Member.{Member}
 use Rattle.model.specs.declared.Playing.{Playing}
 use Rattle.model.specs.declared.Point.{Point}
-use Rattle.model.specs.declared.Row.{Row}
 use Rattle.curve.specs.Bend.{curveHeight}
 use Rattle.score.specs.declared.Kept.{Kept}
 use Rattle.score.specs.declared.Voice.{Voice}
-use Rattle.score.specs.Page.{spanOf, textLeft, heightAt, dynamicAt, plainFinger, hammerAfter, lastAfter, runAfter}
+use Rattle.score.specs.Page.{spanOf, textLeft, heightAt, dynamicAt, plainFinger, firstKey, hammerAfter, lastAfter, runAfter}
 use Rattle.score.specs.Rows.{RowIs}
+use Rattle.draft.specs.declared.Draft.{Draft}
+use Rattle.draft.specs.Meant.{drawn}
+use Rattle.page.specs.declared.members.Company.{Company}
 use Rattle.page.specs.declared.points.Bent.{Bent}
 use Rattle.words.specs.Words.{wordPlus}
+
+-- what a row holds of its members
+pub record Sums (members : List Member) (x : Company) : Type 0 where
+  pub count : length members ≡ x .count
+  pub key : firstKey members ≡ x .key
+  pub finger : plainFinger members ≡ x .finger
+
+-- and of its curve
+pub record Bends (curve : List Point) (x : Bent) : Type 0 where
+  pub count : length curve ≡ x .count
+  pub height : heightAt (curveHeight curve) ≡ x .height
+
+-- what a row does to the rows before it depends on neither, but for its first key
+abbrev pub undrawn : Draft → RowIs
+undrawn d = drawn [] [] d
 
 -- what a row holds of its curve
 abbrev pub bentOf : List Point → Bent
@@ -37,27 +55,11 @@ expressionOf r =
       head = r .head;
     }
 
--- `rowEntry` of Page, for a row whose curve is known by what a row holds of it
-abbrev pub entryOf : RowIs → Bent → OttavaMarks → Kept → Row
-entryOf r bent marks kept =
-    record {
-      place = r .place;
-      kind = r .kind;
-      rest = r .rest;
-      value = r .value;
-      members = spanOf (kept .members) (length (r .members));
-      playing = playingOf r bent (kept .points);
-      expression = expressionOf r;
-      ottava = marks;
-      chord = r .chord;
-      finger = plainFinger (r .members);
-    }
-
-abbrev pub keptAfter : RowIs → Bent → Kept → Kept
-keptAfter r bent kept =
+abbrev pub keptAfter : Company → Bent → Kept → Kept
+keptAfter company bent kept =
     record {
       rows = wordPlus (kept .rows) 1;
-      members = wordPlus (kept .members) (length (r .members));
+      members = wordPlus (kept .members) (company .count);
       points = wordPlus (kept .points) (bent .count);
     }
 

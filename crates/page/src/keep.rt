@@ -1,31 +1,38 @@
 // The rows of a kept beat, entered one after another with their members and their curves.
 use crate::members;
+use crate::members::Company;
 use crate::points;
 use crate::points::Bent;
 use crate::rows;
-use beat::Beat;
-use draft::Chord;
+use beat::places::Beat;
 use draft::Draft;
+use draft::chord::Chord;
+use draft::graces::graces_of;
+use draft::rows::beat_row;
+use draft::rows::grace_row;
 use model::Place;
 use model::RowKind;
 use model::Span;
+use note::places::Notes;
 use score::Fretboard;
 use score::Kept;
 use score::Voice;
 use words::plus;
 ghost use mathlib.Core.Path.{_≡_};
-ghost use lib.Dec.{eqb};
-ghost use Rattle.format.specs.Text.{pick};
-ghost use Rattle.beat.specs.Beat.{beatIn};
-ghost use Rattle.score.specs.Page.{lastAfter, keepRow, keepBeat};
+ghost use mathlib.Core.List.{List};
+ghost use Prim.Native.Nat.{ℕ, _≤_, min};
+ghost use lib.ListN.{length, take};
+ghost use Rattle.model.specs.declared.Member.{Member};
+ghost use Rattle.model.specs.declared.Point.{Point};
+ghost use Rattle.beat.specs.Words.{beatIn};
+ghost use Rattle.score.specs.Page.{lastAfter, keepRow, keepRows, keepBeat};
 ghost use Rattle.score.specs.Members.{graces};
-ghost use Rattle.score.specs.Rows.{graceRow, beatRow};
-ghost use Rattle.draft.specs.Steps.{anyOf};
-ghost use Rattle.draft.specs.Meant.{chordIn, draftIn};
+ghost use Rattle.score.specs.Rows.{graceRows, beatRow, rowsOf};
+ghost use Rattle.draft.specs.Chord.{chordIn};
+ghost use Rattle.draft.specs.Meant.{drawn, draftIn};
 ghost use Rattle.words.specs.Words.{words};
 ghost use Rattle.words.specs.Meant.{rowingOf};
-ghost use Rattle.page.specs.Meant.{undrawn};
-ghost use Rattle.page.specs.Entry.{keptAfter, voiceAfter};
+ghost use Rattle.page.specs.Entry.{Sums, keptAfter, voiceAfter};
 
 // What is kept and what the voice remembers, once a row is entered.
 pub struct Rowed {
@@ -33,13 +40,12 @@ pub struct Rowed {
     pub voice: Voice,
 }
 
-fn kept_after(draft: Draft, bent: Bent, kept: Kept) -> Kept
-    ensures { λ r. ⌜ r ≡ keptAfter (undrawn draft) bent kept ⌝ }
+fn kept_after(company: Company, bent: Bent, kept: Kept) -> Kept
+    ensures { λ r. ⌜ r ≡ keptAfter company bent kept ⌝ }
 {
-    let members = draft.members;
     Kept {
         rows: plus(kept.rows, 1),
-        members: plus(kept.members, members::number_of(members) as u32),
+        members: plus(kept.members, company.count),
         points: plus(kept.points, bent.count),
     }
 }
@@ -54,16 +60,15 @@ fn last_after(kind: RowKind, own: Span, last: Span) -> Span
     }
 }
 
-fn voice_after(draft: Draft, kept: Kept, voice: Voice) -> Voice
-    ensures { λ r. ⌜ r ≡ voiceAfter (undrawn draft) kept voice ⌝ }
+fn voice_after(draft: Draft, company: Company, kept: Kept, voice: Voice) -> Voice
+    ensures { λ r. ⌜ ((ms : List Member) (ps : List Point) → Sums ms company → r ≡ voiceAfter (drawn ms ps draft) kept voice) ⌝ }
 {
     let frets = voice.frets;
-    let members = draft.members;
     let kind = draft.kind;
-    let own = rows::span_of(kept.members, members::number_of(members) as u32);
+    let own = rows::span_of(kept.members, company.count);
     let before = voice.last;
     let last = last_after(kind, own, before);
-    let hammer = rows::hammer_after(kept.rows, draft);
+    let hammer = rows::hammer_after(kept.rows, draft, company);
     let run_before = voice.run;
     let run = rows::run_after(kept.rows, draft, run_before);
     Voice {
@@ -74,77 +79,169 @@ fn voice_after(draft: Draft, kept: Kept, voice: Voice) -> Voice
     }
 }
 
-pub fn keep_row(
+// A row with its curve, and what is remembered after it; its members are entered apart.
+fn keep_row(
     s: &[u8],
     draft: Draft,
+    company: Company,
     kept: Kept,
     voice: Voice,
     rows: &mut [u32],
-    members: &mut [u32],
     points: &mut [u32],
 ) -> Rowed
-    ensures { λ r. ⌜ rowingOf (now (rows .exit)) (now (members .exit)) (now (points .exit)) (r .kept) (r .voice)
-        ≡ keepRow (words (now (s .entry))) (draftIn (now (s .entry)) draft)
-        (rowingOf (now (rows .entry)) (now (members .entry)) (now (points .entry)) kept voice) ⌝ }
+    ensures { λ r. ⌜ ((ms : List Member) (members : List ℕ) → Sums ms company →
+        rowingOf (now (rows .exit)) (keepRow (words (now (s .entry))) (draftIn (now (s .entry)) ms draft) (rowingOf (now (rows .entry)) members (now (points .entry)) kept voice) .members) (now (points .exit)) (r .kept) (r .voice)
+        ≡ keepRow (words (now (s .entry))) (draftIn (now (s .entry)) ms draft)
+        (rowingOf (now (rows .entry)) members (now (points .entry)) kept voice)) ⌝ }
 {
     let bend = draft.bend;
-    let added = draft.members;
-    let last = voice.last;
     let bent = points::add_curve(s, points, kept.points, bend);
-    rows::add_row(rows, draft, bent, kept, voice);
-    members::start_ties(members, last, added);
-    members::add_members(members, kept.members, added);
-    let kept_now = kept_after(draft, bent, kept);
-    let voice_now = voice_after(draft, kept, voice);
+    rows::add_row(rows, draft, company, bent, kept, voice);
+    let kept_now = kept_after(company, bent, kept);
+    let voice_now = voice_after(draft, company, kept, voice);
     Rowed {
         kept: kept_now,
         voice: voice_now,
     }
 }
 
-// The row of a beat's graces, at turn 0, and the beat's own at turn 1.
-fn row_at(
+// The row of a beat's graces, where there are any.
+fn keep_graces(
     s: &[u8],
+    v: u32,
+    place: Place,
+    board: Fretboard,
+    flat: bool,
+    notes: &Notes,
+    chord: &[u32],
+    kept: Kept,
+    voice: Voice,
+    rows: &mut [u32],
+    members: &mut [u32],
+    points: &mut [u32],
+) -> Rowed
+    requires { ⌜ length (now chord) ≤ 7 ⌝ }
+    ensures { λ r. ⌜ rowingOf (now (rows .exit)) (now (members .exit)) (now (points .exit)) (r .kept) (r .voice)
+        ≡ keepRows (words (now (s .entry))) (graceRows place board flat (graces (chordIn (now (s .entry)) v (now (notes .entry)) (now (chord .entry)))))
+        (rowingOf (now (rows .entry)) (now (members .entry)) (now (points .entry)) kept voice) ⌝ }
+{
+    let x = graces_of(notes, chord);
+    if !x.any {
+        return Rowed { kept, voice };
+    }
+    let count = members::add_graces(members, kept.members, board, flat, notes, chord);
+    let company = members::grace_company(notes, chord, count);
+    keep_row(s, grace_row(place, x), company, kept, voice, rows, points)
+}
+
+// The beat's own row.
+fn keep_own(
+    s: &[u8],
+    v: u32,
     place: Place,
     board: Fretboard,
     flat: bool,
     running: u8,
-    beat: Beat,
-    chord: Chord,
-    turn: u32,
-) -> Draft
-    ensures { λ r. ⌜ draftIn (now (s .entry)) r
-        ≡ pick (eqb turn 0) (graceRow place board flat (graces (chordIn (now (s .entry)) (beat .notes) chord)))
-        (beatRow place board flat running (beatIn (now (s .entry)) beat)
-        (chordIn (now (s .entry)) (beat .notes) chord)) ⌝ }
+    b: &Beat,
+    notes: &Notes,
+    chord: &[u32],
+    kept: Kept,
+    voice: Voice,
+    rows: &mut [u32],
+    members: &mut [u32],
+    points: &mut [u32],
+) -> Rowed
+    requires { ⌜ length (now chord) ≤ 7 ⌝ }
+    ensures { λ r. ⌜ rowingOf (now (rows .exit)) (now (members .exit)) (now (points .exit)) (r .kept) (r .voice)
+        ≡ keepRow (words (now (s .entry))) (beatRow place board flat running (beatIn (now (s .entry)) v (now (b .entry)) (now (notes .entry)))
+        (chordIn (now (s .entry)) v (now (notes .entry)) (now (chord .entry))))
+        (rowingOf (now (rows .entry)) (now (members .entry)) (now (points .entry)) kept voice) ⌝ }
 {
-    if turn == 0 {
-        let notes = beat.notes;
-        return draft::rows::grace_row(s, place, board, flat, notes, chord);
-    }
-    draft::rows::beat_row(s, place, board, flat, running, beat, chord)
+    let last = voice.last;
+    members::start_ties(members, last, board, flat, notes, chord);
+    members::add_members(members, kept.members, board, flat, notes, chord);
+    let company = members::company_of(notes, chord);
+    let draft = beat_row(place, running, b, notes, chord, v);
+    keep_row(s, draft, company, kept, voice, rows, points)
 }
 
-// Where there are no graces, the beat's own row is the first.
-fn first_turn(s: &[u8], beat: Beat, chord: Chord) -> u32
-    ensures { λ r. ⌜ r ≡ pick (anyOf (graces (chordIn (now (s .entry)) (beat .notes) chord))) 0 1 ⌝ }
+fn size_of(count: usize) -> usize
+    ensures { λ r. ⌜ r ≡ min count 7 ⌝ }
 {
-    let notes = beat.notes;
-    if draft::rows::has_grace(s, notes, chord) {
-        return 0;
-    }
-    1
+    if count <= 7 { count } else { 7 }
 }
 
-// A loop, so that `keep_row` is called at one place: the compiler inlines it there, and not where it is called at two.
+// The rows of a kept beat; the first `size` notes of the chord sound.
+fn keep_rows(
+    s: &[u8],
+    v: u32,
+    place: Place,
+    board: Fretboard,
+    flat: bool,
+    running: u8,
+    b: &Beat,
+    notes: &Notes,
+    chord: &[u32],
+    size: usize,
+    kept: Kept,
+    voice: Voice,
+    rows: &mut [u32],
+    members: &mut [u32],
+    points: &mut [u32],
+) -> Rowed
+    requires { ⌜ (size ≤ 7) × (size ≤ length (now chord)) ⌝ }
+    ensures { λ r. ⌜ rowingOf (now (rows .exit)) (now (members .exit)) (now (points .exit)) (r .kept) (r .voice)
+        ≡ keepRows (words (now (s .entry))) (rowsOf place board flat running (beatIn (now (s .entry)) v (now (b .entry)) (now (notes .entry)))
+        (chordIn (now (s .entry)) v (now (notes .entry)) (take size (now (chord .entry)))))
+        (rowingOf (now (rows .entry)) (now (members .entry)) (now (points .entry)) kept voice) ⌝ }
+{
+    let sounding = &chord[..size];
+    let graced = keep_graces(
+        s,
+        v,
+        place,
+        board,
+        flat,
+        notes,
+        sounding,
+        kept,
+        voice,
+        rows,
+        members,
+        points,
+    );
+    let kept = graced.kept;
+    let voice = graced.voice;
+    keep_own(
+        s,
+        v,
+        place,
+        board,
+        flat,
+        running,
+        b,
+        notes,
+        sounding,
+        kept,
+        voice,
+        rows,
+        members,
+        points,
+    )
+}
+
+// The first `count` notes of the chord sound.
 pub fn keep_beat(
     s: &[u8],
+    v: u32,
     place: Place,
     board: Fretboard,
     flat: bool,
     running: u8,
-    beat: Beat,
-    chord: Chord,
+    b: &Beat,
+    notes: &Notes,
+    chord: &Chord,
+    count: usize,
     kept: Kept,
     voice: Voice,
     rows: &mut [u32],
@@ -152,26 +249,29 @@ pub fn keep_beat(
     points: &mut [u32],
 ) -> Rowed
     ensures { λ r. ⌜ rowingOf (now (rows .exit)) (now (members .exit)) (now (points .exit)) (r .kept) (r .voice)
-        ≡ keepBeat (words (now (s .entry))) place board flat running (beatIn (now (s .entry)) beat)
-        (chordIn (now (s .entry)) (beat .notes) chord)
+        ≡ keepBeat (words (now (s .entry))) place board flat running (beatIn (now (s .entry)) v (now (b .entry)) (now (notes .entry)))
+        (chordIn (now (s .entry)) v (now (notes .entry)) (take count (now (chord .entry))))
         (rowingOf (now (rows .entry)) (now (members .entry)) (now (points .entry)) kept voice) ⌝ }
 {
-    let head = beat.head;
-    if !head.kept {
+    if !beat::field::kept(b) {
         return Rowed { kept, voice };
     }
-    let mut turn = first_turn(s, beat, chord);
-    let mut kept_now = kept;
-    let mut voice_now = voice;
-    while turn < 2 {
-        let row = row_at(s, place, board, flat, running, beat, chord, turn);
-        let rowed = keep_row(s, row, kept_now, voice_now, rows, members, points);
-        kept_now = rowed.kept;
-        voice_now = rowed.voice;
-        turn += 1;
-    }
-    Rowed {
-        kept: kept_now,
-        voice: voice_now,
-    }
+    let size = size_of(count);
+    keep_rows(
+        s,
+        v,
+        place,
+        board,
+        flat,
+        running,
+        b,
+        notes,
+        chord,
+        size,
+        kept,
+        voice,
+        rows,
+        members,
+        points,
+    )
 }

@@ -1,5 +1,5 @@
 // The entry of a row, and what the row does to those of its voice before it.
-use crate::members;
+use crate::members::Company;
 use crate::points::Bent;
 use curve::level::Level;
 use draft::Draft;
@@ -21,15 +21,17 @@ use score::Kept;
 use score::OttavaRun;
 use score::Voice;
 ghost use mathlib.Core.Path.{_≡_};
-ghost use mathlib.Core.List.{[]};
+ghost use mathlib.Core.List.{List, []};
 ghost use Prim.Native.Nat.{_*_};
 ghost use lib.Seq.{sets};
 ghost use Rattle.entries.specs.Words.{rowStride, rowWords};
-ghost use Rattle.score.specs.Page.{spanOf, marked, textLeft, dynamicAt};
+ghost use Rattle.model.specs.declared.Member.{Member};
+ghost use Rattle.model.specs.declared.Point.{Point};
+ghost use Rattle.score.specs.Page.{spanOf, marked, textLeft, dynamicAt, rowEntry};
 ghost use Rattle.score.specs.Page.{pulls, hammerAfter, turnHammer, under, sameKind, ottavaMarks, runAfter, turnRun};
 ghost use Rattle.words.specs.Words.{words};
-ghost use Rattle.page.specs.Meant.{undrawn};
-ghost use Rattle.page.specs.Entry.{playingOf, expressionOf, entryOf};
+ghost use Rattle.draft.specs.Meant.{drawn};
+ghost use Rattle.page.specs.Entry.{Sums, Bends, undrawn, playingOf, expressionOf};
 
 // ---- hammers and pull-offs
 
@@ -44,32 +46,31 @@ fn is_marked(text: TechniqueText) -> bool
     }
 }
 
-fn pulls(draft: Draft, key: u8) -> bool
-    ensures { λ r. ⌜ r ≡ pulls (undrawn draft) key ⌝ }
+fn pulls(draft: Draft, company: Company, key: u8) -> bool
+    ensures { λ r. ⌜ ((ms : List Member) (ps : List Point) → Sums ms company → r ≡ pulls (drawn ms ps draft) key) ⌝ }
 {
-    let members = draft.members;
-    !draft.rest & members::lower_first(members, key)
+    !draft.rest & ((company.count != 0) & (company.key < key))
 }
 
 // A row with the hammer mark turns pull-off when the next row of its voice is no rest and starts on a lower key.
-fn turn_hammer(rows: &mut [u32], hammer: Hammer, draft: Draft)
-    ensures { λ _. ⌜ now (rows .exit) ≡ turnHammer (words []) hammer (undrawn draft) (now (rows .entry)) ⌝ }
+fn turn_hammer(rows: &mut [u32], hammer: Hammer, draft: Draft, company: Company)
+    ensures { λ _. ⌜ ((ms : List Member) (ps : List Point) → Sums ms company →
+        now (rows .exit) ≡ turnHammer (words []) hammer (drawn ms ps draft) (now (rows .entry))) ⌝ }
 {
     let Hammer::Waits(n, key) = hammer else {
         return;
     };
-    if pulls(draft, key) {
+    if pulls(draft, company, key) {
         set_technique(rows, n as usize, Technique::PullOff);
     }
 }
 
-pub(crate) fn hammer_after(n: u32, draft: Draft) -> Hammer
-    ensures { λ r. ⌜ r ≡ hammerAfter n (undrawn draft) ⌝ }
+pub(crate) fn hammer_after(n: u32, draft: Draft, company: Company) -> Hammer
+    ensures { λ r. ⌜ ((ms : List Member) (ps : List Point) → Sums ms company → r ≡ hammerAfter n (drawn ms ps draft)) ⌝ }
 {
     let text = draft.text;
     if is_marked(text) {
-        let members = draft.members;
-        return Hammer::Waits(n, members::first_key(members));
+        return Hammer::Waits(n, company.key);
     }
     Hammer::NoHammer
 }
@@ -195,18 +196,19 @@ fn expression_of(draft: Draft) -> Expression
     }
 }
 
-fn row_entry(draft: Draft, bent: Bent, marks: OttavaMarks, kept: Kept) -> Row
-    ensures { λ r. ⌜ r ≡ entryOf (undrawn draft) bent marks kept ⌝ }
+// The entry of a row whose ottava marks are given.
+fn row_entry(draft: Draft, company: Company, bent: Bent, marks: OttavaMarks, kept: Kept) -> Row
+    ensures { λ r. ⌜ ((ms : List Member) (ps : List Point) → Sums ms company → Bends ps bent →
+        r ≡ rowEntry (drawn ms ps draft) marks kept) ⌝ }
 {
     let place = draft.place;
     let kind = draft.kind;
     let value = draft.value;
-    let members = draft.members;
-    let span = span_of(kept.members, members::number_of(members) as u32);
+    let span = span_of(kept.members, company.count);
     let playing = playing_of(draft, bent, kept.points);
     let expression = expression_of(draft);
     let chord = draft.chord;
-    let finger = members::plain_finger(members);
+    let finger = company.finger;
     Row {
         place,
         kind,
@@ -221,18 +223,25 @@ fn row_entry(draft: Draft, bent: Bent, marks: OttavaMarks, kept: Kept) -> Row
     }
 }
 
-pub(crate) fn add_row(rows: &mut [u32], draft: Draft, bent: Bent, kept: Kept, voice: Voice)
-    ensures { λ _. ⌜ now (rows .exit)
+pub(crate) fn add_row(
+    rows: &mut [u32],
+    draft: Draft,
+    company: Company,
+    bent: Bent,
+    kept: Kept,
+    voice: Voice,
+)
+    ensures { λ _. ⌜ ((ms : List Member) (ps : List Point) → Sums ms company → Bends ps bent → now (rows .exit)
         ≡ sets
-        (turnRun (words []) (voice .run) (undrawn draft)
-        (turnHammer (words []) (voice .hammer) (undrawn draft) (now (rows .entry))))
+        (turnRun (words []) (voice .run) (drawn ms ps draft)
+        (turnHammer (words []) (voice .hammer) (drawn ms ps draft) (now (rows .entry))))
         (kept .rows * rowStride)
-        (rowWords (entryOf (undrawn draft) bent (ottavaMarks (undrawn draft) (voice .run)) kept)) ⌝ }
+        (rowWords (rowEntry (drawn ms ps draft) (ottavaMarks (drawn ms ps draft) (voice .run)) kept))) ⌝ }
 {
     let hammer = voice.hammer;
     let run = voice.run;
-    turn_hammer(rows, hammer, draft);
+    turn_hammer(rows, hammer, draft, company);
     turn_run(rows, run, draft);
-    let row = row_entry(draft, bent, ottava_marks(draft, run), kept);
+    let row = row_entry(draft, company, bent, ottava_marks(draft, run), kept);
     store_row(rows, kept.rows as usize, row);
 }

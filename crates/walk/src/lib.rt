@@ -1,12 +1,19 @@
 // The walk over bars, tracks, voices and beats.
+use beat::places::Beat;
 use bin::Number;
+use draft::chord::Chord;
+use enter::Progress;
 use format::Counted;
 use format::Place;
+use losses::Losses;
+use note::places::Notes;
 use score::Tally;
 ghost use Rattle.format.specs.Place.{Reaches};
 ghost use Rattle.format.specs.Prog.{turns};
 ghost use Rattle.score.specs.File as file;
 ghost use Rattle.words.specs.Meant.{walkOf};
+ghost use mathlib.Core.Path.{_≡_};
+ghost use Rattle.enter.specs.Steps.{tallyOf};
 ghost use Rattle.walk.specs.Entering.{entering, beatStep};
 
 // What is counted so far, and where reading goes on.
@@ -15,37 +22,76 @@ pub struct Walked {
     pub next: Place,
 }
 
+// The same while the losses are lent.
+struct Step {
+    progress: Progress,
+    next: Place,
+}
+
+fn progress_of(tally: Tally) -> Progress
+    ensures { λ r. ⌜ tallyOf r (tally .losses) ≡ tally ⌝ }
+{
+    let kept = tally.kept;
+    Progress {
+        kept,
+        texts: tally.texts,
+        text_room: tally.text_room,
+        point_room: tally.point_room,
+        flat: tally.flat,
+    }
+}
+
+fn tally_of(progress: Progress, losses: [u32; 17]) -> Tally
+    ensures { λ r. ⌜ r ≡ tallyOf progress losses ⌝ }
+{
+    let kept = progress.kept;
+    Tally {
+        kept,
+        texts: progress.texts,
+        text_room: progress.text_room,
+        point_room: progress.point_room,
+        flat: progress.flat,
+        losses,
+    }
+}
+
 fn one_beat(
     s: &[u8],
     from: Place,
     v: u32,
     counting: bool,
     place: model::Place,
-    tally: Tally,
+    progress: Progress,
     bars: &mut [u32],
     rows: &mut [u32],
     members: &mut [u32],
     points: &mut [u32],
     texts: &mut [u32],
     parts: &mut [u32],
-) -> Walked
-    ensures { λ r. ⌜ Reaches (beatStep counting (now (s .entry)) v (place .bar) (place .track) (place .voice) (walkOf (now (bars .entry)) (now (rows .entry)) (now (members .entry)) (now (points .entry)) (now (texts .entry)) (now (parts .entry)) tally)) (now (s .entry)) from (walkOf (now (bars .exit)) (now (rows .exit)) (now (members .exit)) (now (points .exit)) (now (texts .exit)) (now (parts .exit)) (r .tally)) (r .next) ⌝ }
+    lost: &mut Losses,
+    b: &mut Beat,
+    notes: &mut Notes,
+    chord: &mut Chord,
+) -> Step
+    ensures { λ r. ⌜ Reaches (beatStep counting (now (s .entry)) v (place .bar) (place .track) (place .voice) (walkOf (now (bars .entry)) (now (rows .entry)) (now (members .entry)) (now (points .entry)) (now (texts .entry)) (now (parts .entry)) (tallyOf progress (now (lost .entry))))) (now (s .entry)) from (walkOf (now (bars .exit)) (now (rows .exit)) (now (members .exit)) (now (points .exit)) (now (texts .exit)) (now (parts .exit)) (tallyOf (r .progress) (now (lost .exit)))) (r .next) ⌝ }
 {
-    let read = beat::read_beat(s, from, v);
-    let next = read.next;
+    let next = beat::read_beat(s, from, v, b, notes);
     let Place::At(_) = next else {
-        return Walked { tally, next };
+        return Step { progress, next };
     };
-    let beat = read.beat;
     if counting {
-        let tally = enter::count::count_beat(s, place.track as usize, beat, tally, parts);
-        return Walked { tally, next };
+        let progress = enter::count::count_beat(s, place.track as usize, b, notes, progress, parts);
+        return Step { progress, next };
     }
-    let tally = enter::add_beat(
+    let progress = enter::add_beat(
         s,
+        v,
         place,
-        beat,
-        tally,
+        b,
+        notes,
+        chord,
+        progress,
+        lost,
         bars,
         rows,
         members,
@@ -53,7 +99,7 @@ fn one_beat(
         texts,
         parts,
     );
-    Walked { tally, next }
+    Step { progress, next }
 }
 
 fn beats(
@@ -63,17 +109,21 @@ fn beats(
     counting: bool,
     n: u32,
     place: model::Place,
-    tally: Tally,
+    progress: Progress,
     bars: &mut [u32],
     rows: &mut [u32],
     members: &mut [u32],
     points: &mut [u32],
     texts: &mut [u32],
     parts: &mut [u32],
-) -> Walked
-    ensures { λ r. ⌜ Reaches (turns n 0 (file.oneBeat (entering counting (now (s .entry))) v (place .bar) (place .track) (place .voice)) (walkOf (now (bars .entry)) (now (rows .entry)) (now (members .entry)) (now (points .entry)) (now (texts .entry)) (now (parts .entry)) tally)) (now (s .entry)) from (walkOf (now (bars .exit)) (now (rows .exit)) (now (members .exit)) (now (points .exit)) (now (texts .exit)) (now (parts .exit)) (r .tally)) (r .next) ⌝ }
+    lost: &mut Losses,
+    b: &mut Beat,
+    notes: &mut Notes,
+    chord: &mut Chord,
+) -> Step
+    ensures { λ r. ⌜ Reaches (turns n 0 (file.oneBeat (entering counting (now (s .entry))) v (place .bar) (place .track) (place .voice)) (walkOf (now (bars .entry)) (now (rows .entry)) (now (members .entry)) (now (points .entry)) (now (texts .entry)) (now (parts .entry)) (tallyOf progress (now (lost .entry))))) (now (s .entry)) from (walkOf (now (bars .exit)) (now (rows .exit)) (now (members .exit)) (now (points .exit)) (now (texts .exit)) (now (parts .exit)) (tallyOf (r .progress) (now (lost .exit)))) (r .next) ⌝ }
 {
-    let mut tally = tally;
+    let mut progress = progress;
     let mut at = from;
     let mut i = 0;
     while i < n {
@@ -83,22 +133,26 @@ fn beats(
             v,
             counting,
             place,
-            tally,
+            progress,
             bars,
             rows,
             members,
             points,
             texts,
             parts,
+            lost,
+            b,
+            notes,
+            chord,
         );
-        tally = walked.tally;
+        progress = walked.progress;
         at = walked.next;
         let Place::At(_) = at else {
-            return Walked { tally, next: at };
+            return Step { progress, next: at };
         };
         i += 1;
     }
-    Walked { tally, next: at }
+    Step { progress, next: at }
 }
 
 fn voice(
@@ -107,15 +161,19 @@ fn voice(
     v: u32,
     counting: bool,
     place: model::Place,
-    tally: Tally,
+    progress: Progress,
     bars: &mut [u32],
     rows: &mut [u32],
     members: &mut [u32],
     points: &mut [u32],
     texts: &mut [u32],
     parts: &mut [u32],
-) -> Walked
-    ensures { λ r. ⌜ Reaches (file.voice (entering counting (now (s .entry))) v (place .bar) (place .track) (place .voice) (walkOf (now (bars .entry)) (now (rows .entry)) (now (members .entry)) (now (points .entry)) (now (texts .entry)) (now (parts .entry)) tally)) (now (s .entry)) from (walkOf (now (bars .exit)) (now (rows .exit)) (now (members .exit)) (now (points .exit)) (now (texts .exit)) (now (parts .exit)) (r .tally)) (r .next) ⌝ }
+    lost: &mut Losses,
+    b: &mut Beat,
+    notes: &mut Notes,
+    chord: &mut Chord,
+) -> Step
+    ensures { λ r. ⌜ Reaches (file.voice (entering counting (now (s .entry))) v (place .bar) (place .track) (place .voice) (walkOf (now (bars .entry)) (now (rows .entry)) (now (members .entry)) (now (points .entry)) (now (texts .entry)) (now (parts .entry)) (tallyOf progress (now (lost .entry))))) (now (s .entry)) from (walkOf (now (bars .exit)) (now (rows .exit)) (now (members .exit)) (now (points .exit)) (now (texts .exit)) (now (parts .exit)) (tallyOf (r .progress) (now (lost .exit)))) (r .next) ⌝ }
 {
     let count = bin::count_at(s, from, Counted::Beats);
     let at = count.next;
@@ -126,13 +184,17 @@ fn voice(
         counting,
         count.value,
         place,
-        tally,
+        progress,
         bars,
         rows,
         members,
         points,
         texts,
         parts,
+        lost,
+        b,
+        notes,
+        chord,
     )
 }
 
@@ -160,17 +222,21 @@ fn voices(
     n: u32,
     bar: u32,
     track: u32,
-    tally: Tally,
+    progress: Progress,
     bars: &mut [u32],
     rows: &mut [u32],
     members: &mut [u32],
     points: &mut [u32],
     texts: &mut [u32],
     parts: &mut [u32],
-) -> Walked
-    ensures { λ r. ⌜ Reaches (turns n 0 (file.voice (entering counting (now (s .entry))) v bar track) (walkOf (now (bars .entry)) (now (rows .entry)) (now (members .entry)) (now (points .entry)) (now (texts .entry)) (now (parts .entry)) tally)) (now (s .entry)) from (walkOf (now (bars .exit)) (now (rows .exit)) (now (members .exit)) (now (points .exit)) (now (texts .exit)) (now (parts .exit)) (r .tally)) (r .next) ⌝ }
+    lost: &mut Losses,
+    b: &mut Beat,
+    notes: &mut Notes,
+    chord: &mut Chord,
+) -> Step
+    ensures { λ r. ⌜ Reaches (turns n 0 (file.voice (entering counting (now (s .entry))) v bar track) (walkOf (now (bars .entry)) (now (rows .entry)) (now (members .entry)) (now (points .entry)) (now (texts .entry)) (now (parts .entry)) (tallyOf progress (now (lost .entry))))) (now (s .entry)) from (walkOf (now (bars .exit)) (now (rows .exit)) (now (members .exit)) (now (points .exit)) (now (texts .exit)) (now (parts .exit)) (tallyOf (r .progress) (now (lost .exit)))) (r .next) ⌝ }
 {
-    let mut tally = tally;
+    let mut progress = progress;
     let mut at = from;
     let mut i = 0;
     while i < n {
@@ -184,22 +250,26 @@ fn voices(
                 track,
                 voice: i,
             },
-            tally,
+            progress,
             bars,
             rows,
             members,
             points,
             texts,
             parts,
+            lost,
+            b,
+            notes,
+            chord,
         );
-        tally = walked.tally;
+        progress = walked.progress;
         at = walked.next;
         let Place::At(_) = at else {
-            return Walked { tally, next: at };
+            return Step { progress, next: at };
         };
         i += 1;
     }
-    Walked { tally, next: at }
+    Step { progress, next: at }
 }
 
 fn bar_track(
@@ -209,15 +279,19 @@ fn bar_track(
     counting: bool,
     bar: u32,
     track: u32,
-    tally: Tally,
+    progress: Progress,
     bars: &mut [u32],
     rows: &mut [u32],
     members: &mut [u32],
     points: &mut [u32],
     texts: &mut [u32],
     parts: &mut [u32],
-) -> Walked
-    ensures { λ r. ⌜ Reaches (file.barTrack (entering counting (now (s .entry))) v bar track (walkOf (now (bars .entry)) (now (rows .entry)) (now (members .entry)) (now (points .entry)) (now (texts .entry)) (now (parts .entry)) tally)) (now (s .entry)) from (walkOf (now (bars .exit)) (now (rows .exit)) (now (members .exit)) (now (points .exit)) (now (texts .exit)) (now (parts .exit)) (r .tally)) (r .next) ⌝ }
+    lost: &mut Losses,
+    b: &mut Beat,
+    notes: &mut Notes,
+    chord: &mut Chord,
+) -> Step
+    ensures { λ r. ⌜ Reaches (file.barTrack (entering counting (now (s .entry))) v bar track (walkOf (now (bars .entry)) (now (rows .entry)) (now (members .entry)) (now (points .entry)) (now (texts .entry)) (now (parts .entry)) (tallyOf progress (now (lost .entry))))) (now (s .entry)) from (walkOf (now (bars .exit)) (now (rows .exit)) (now (members .exit)) (now (points .exit)) (now (texts .exit)) (now (parts .exit)) (tallyOf (r .progress) (now (lost .exit)))) (r .next) ⌝ }
 {
     let count = voices_at(s, from, v);
     let at = count.next;
@@ -229,13 +303,17 @@ fn bar_track(
         count.value,
         bar,
         track,
-        tally,
+        progress,
         bars,
         rows,
         members,
         points,
         texts,
         parts,
+        lost,
+        b,
+        notes,
+        chord,
     )
 }
 
@@ -246,17 +324,21 @@ fn bar_tracks(
     counting: bool,
     tracks: u32,
     bar: u32,
-    tally: Tally,
+    progress: Progress,
     bars: &mut [u32],
     rows: &mut [u32],
     members: &mut [u32],
     points: &mut [u32],
     texts: &mut [u32],
     parts: &mut [u32],
-) -> Walked
-    ensures { λ r. ⌜ Reaches (turns tracks 0 (file.barTrack (entering counting (now (s .entry))) v bar) (walkOf (now (bars .entry)) (now (rows .entry)) (now (members .entry)) (now (points .entry)) (now (texts .entry)) (now (parts .entry)) tally)) (now (s .entry)) from (walkOf (now (bars .exit)) (now (rows .exit)) (now (members .exit)) (now (points .exit)) (now (texts .exit)) (now (parts .exit)) (r .tally)) (r .next) ⌝ }
+    lost: &mut Losses,
+    b: &mut Beat,
+    notes: &mut Notes,
+    chord: &mut Chord,
+) -> Step
+    ensures { λ r. ⌜ Reaches (turns tracks 0 (file.barTrack (entering counting (now (s .entry))) v bar) (walkOf (now (bars .entry)) (now (rows .entry)) (now (members .entry)) (now (points .entry)) (now (texts .entry)) (now (parts .entry)) (tallyOf progress (now (lost .entry))))) (now (s .entry)) from (walkOf (now (bars .exit)) (now (rows .exit)) (now (members .exit)) (now (points .exit)) (now (texts .exit)) (now (parts .exit)) (tallyOf (r .progress) (now (lost .exit)))) (r .next) ⌝ }
 {
-    let mut tally = tally;
+    let mut progress = progress;
     let mut at = from;
     let mut i = 0;
     while i < tracks {
@@ -267,22 +349,26 @@ fn bar_tracks(
             counting,
             bar,
             i,
-            tally,
+            progress,
             bars,
             rows,
             members,
             points,
             texts,
             parts,
+            lost,
+            b,
+            notes,
+            chord,
         );
-        tally = walked.tally;
+        progress = walked.progress;
         at = walked.next;
         let Place::At(_) = at else {
-            return Walked { tally, next: at };
+            return Step { progress, next: at };
         };
         i += 1;
     }
-    Walked { tally, next: at }
+    Step { progress, next: at }
 }
 
 fn one_bar(
@@ -292,18 +378,22 @@ fn one_bar(
     counting: bool,
     tracks: u32,
     bar: u32,
-    tally: Tally,
+    progress: Progress,
     bars: &mut [u32],
     rows: &mut [u32],
     members: &mut [u32],
     points: &mut [u32],
     texts: &mut [u32],
     parts: &mut [u32],
-) -> Walked
-    ensures { λ r. ⌜ Reaches (file.bar (entering counting (now (s .entry))) v tracks bar (walkOf (now (bars .entry)) (now (rows .entry)) (now (members .entry)) (now (points .entry)) (now (texts .entry)) (now (parts .entry)) tally)) (now (s .entry)) from (walkOf (now (bars .exit)) (now (rows .exit)) (now (members .exit)) (now (points .exit)) (now (texts .exit)) (now (parts .exit)) (r .tally)) (r .next) ⌝ }
+    lost: &mut Losses,
+    b: &mut Beat,
+    notes: &mut Notes,
+    chord: &mut Chord,
+) -> Step
+    ensures { λ r. ⌜ Reaches (file.bar (entering counting (now (s .entry))) v tracks bar (walkOf (now (bars .entry)) (now (rows .entry)) (now (members .entry)) (now (points .entry)) (now (texts .entry)) (now (parts .entry)) (tallyOf progress (now (lost .entry))))) (now (s .entry)) from (walkOf (now (bars .exit)) (now (rows .exit)) (now (members .exit)) (now (points .exit)) (now (texts .exit)) (now (parts .exit)) (tallyOf (r .progress) (now (lost .exit)))) (r .next) ⌝ }
 {
     let key = bars::key_at(bars, bar as usize);
-    let tally = enter::enter_bar(tally, key);
+    let progress = enter::enter_bar(progress, key);
     bar_tracks(
         s,
         from,
@@ -311,17 +401,75 @@ fn one_bar(
         counting,
         tracks,
         bar,
-        tally,
+        progress,
         bars,
         rows,
         members,
         points,
         texts,
         parts,
+        lost,
+        b,
+        notes,
+        chord,
     )
 }
 
-// All bars, each with its tracks, voices and beats.
+fn every_bar(
+    s: &[u8],
+    from: Place,
+    v: u32,
+    counting: bool,
+    n: u32,
+    tracks: u32,
+    progress: Progress,
+    bars: &mut [u32],
+    rows: &mut [u32],
+    members: &mut [u32],
+    points: &mut [u32],
+    texts: &mut [u32],
+    parts: &mut [u32],
+    lost: &mut Losses,
+    b: &mut Beat,
+    notes: &mut Notes,
+    chord: &mut Chord,
+) -> Step
+    ensures { λ r. ⌜ Reaches (turns n 0 (file.bar (entering counting (now (s .entry))) v tracks) (walkOf (now (bars .entry)) (now (rows .entry)) (now (members .entry)) (now (points .entry)) (now (texts .entry)) (now (parts .entry)) (tallyOf progress (now (lost .entry))))) (now (s .entry)) from (walkOf (now (bars .exit)) (now (rows .exit)) (now (members .exit)) (now (points .exit)) (now (texts .exit)) (now (parts .exit)) (tallyOf (r .progress) (now (lost .exit)))) (r .next) ⌝ }
+{
+    let mut progress = progress;
+    let mut at = from;
+    let mut i = 0;
+    while i < n {
+        let walked = one_bar(
+            s,
+            at,
+            v,
+            counting,
+            tracks,
+            i,
+            progress,
+            bars,
+            rows,
+            members,
+            points,
+            texts,
+            parts,
+            lost,
+            b,
+            notes,
+            chord,
+        );
+        progress = walked.progress;
+        at = walked.next;
+        let Place::At(_) = at else {
+            return Step { progress, next: at };
+        };
+        i += 1;
+    }
+    Step { progress, next: at }
+}
+
+// All bars, each with its tracks, voices and beats. The words of a beat, of its notes and of a chord serve one beat after another.
 pub fn all_bars(
     s: &[u8],
     from: Place,
@@ -339,31 +487,31 @@ pub fn all_bars(
 ) -> Walked
     ensures { λ r. ⌜ Reaches (turns n 0 (file.bar (entering counting (now (s .entry))) v tracks) (walkOf (now (bars .entry)) (now (rows .entry)) (now (members .entry)) (now (points .entry)) (now (texts .entry)) (now (parts .entry)) tally)) (now (s .entry)) from (walkOf (now (bars .exit)) (now (rows .exit)) (now (members .exit)) (now (points .exit)) (now (texts .exit)) (now (parts .exit)) (r .tally)) (r .next) ⌝ }
 {
-    let mut tally = tally;
-    let mut at = from;
-    let mut i = 0;
-    while i < n {
-        let walked = one_bar(
-            s,
-            at,
-            v,
-            counting,
-            tracks,
-            i,
-            tally,
-            bars,
-            rows,
-            members,
-            points,
-            texts,
-            parts,
-        );
-        tally = walked.tally;
-        at = walked.next;
-        let Place::At(_) = at else {
-            return Walked { tally, next: at };
-        };
-        i += 1;
-    }
-    Walked { tally, next: at }
+    let mut lost = tally.losses;
+    let mut b = [0usize; 19];
+    let mut notes = [0usize; 144];
+    let mut chord = [0u32; 7];
+    let walked = every_bar(
+        s,
+        from,
+        v,
+        counting,
+        n,
+        tracks,
+        progress_of(tally),
+        bars,
+        rows,
+        members,
+        points,
+        texts,
+        parts,
+        &mut lost,
+        &mut b,
+        &mut notes,
+        &mut chord,
+    );
+    let progress = walked.progress;
+    let next = walked.next;
+    let tally = tally_of(progress, lost);
+    Walked { tally, next }
 }

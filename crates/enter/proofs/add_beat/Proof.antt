@@ -1,5 +1,6 @@
 -- Call by call. Assumes nothing.
 use borrow.Author.Needs.{needs}
+use Rattle.beat.specs.Words.{beatIn}
 use Rattle.enter.proofs.Steps.{adds}
 use Rattle.enter.proofs.add_beat.Statement.{statement}
 use Rattle.enter.proofs.add_beat.Tie as tie
@@ -10,13 +11,24 @@ add-beat-spec =
     (tie.spec
     (λ c κs. search needs)
     (λ c κs. search needs)
+    (λ c κs. search needs)
     (λ c. search needs)
     (λ c κs. search needs)
     (λ c κs. search needs)
+    (λ c κs. search needs)
+    (λ c. search needs)
+    (λ c. c .before .before .before .before .before .before .before .before .before .before .before .before .before .before .before .before .before .before .before .before .before .before .before .before .sound .kept .1 .1 .1 .1 .1 .1 .1 .1 .0)
+    (λ c. c .before .before .before .before .before .before .before .before .before .before .before .before .before .before .before .before .before .before .before .before .before .before .before .before .sound .kept .1 .1 .1 .1 .1 .1 .1 .1 .1 .0)
+    (λ c. c .before .before .before .before .before .before .before .before .before .before .before .before .before .before .before .before .before .before .before .before .before .before .before .before .sound .kept .1 .1 .1 .1 .1 .1 .1 .1 .1 .1 .0)
     (λ c. search needs)
     (λ c. search needs)
-    (λ c. search needs)
-    (λ c. search needs)
-    (λ c. search needs)
-    (λ c. search needs)
-    (λ c. adds _ _ _ _ _ _ _ _ _ _ (c .before .before .before .before .before .before .before .before .before .before .before .before .before .before .before .before .before .before .before .sound .ensures) (c .before .before .before .before .before .before .before .before .before .enter-text .ensures .0) (c .before .before .before .before .before .before .before .before .before .enter-text .ensures .1) (c .before .before .before .set-first-tempo .ensures) (c .counted .ensures)))
+    (λ c.
+    let a = c .before .before .before .before .before .before .before .before .before .before .before .before .before .before .before .before .before .before .before .before .before .before .before .before .before .before .before .before .before .before .before .before .before .before .before .before .before .before .args in
+    let text = c .before .before .before .before .before .before .before .before .before .before .before .before .before .before .enter-text .ensures (a .v) (a .notes .now) in
+    adds (a .s .now) (a .place) (beatIn (a .s .now) (a .v) (a .b .now) (a .notes .now)) (a .progress) (a .lost .now) (a .bars .now) (a .rows .now) (a .members .now) (a .points .now) (a .texts .now) (a .parts .now)
+    (c .before .before .before .before .before .before .before .before .before .before .before .before .before .before .before .before .before .before .before .before .before .before .before .before .sound .ensures .1)
+    (text .0)
+    (text .1)
+    (rw (c .before .before .before .before .before .before .before .before .before .before .before .tempo .ensures) at (c .before .before .before .before .before .before .before .before .set-first-tempo .ensures))
+    (c .before .before .count-losses .ensures (a .s .now))
+    (c .counted .ensures (a .v))))

@@ -8,4 +8,4 @@ enter-bar-spec =
     tie.close
     (tie.spec
     (λ c κs. search needs)
-    (λ c. rw (c .flat-after .ensures)))
+    (λ c lost. rw (c .flat-after .ensures)))

@@ -10,6 +10,7 @@ enter-text-spec =
     (tie.spec
     (λ c κs. search needs)
     (λ c κs. search needs)
+    (λ c κs. search needs)
     (λ c. search needs)
-    (λ c. rw (sym (c .before .before .before .before .before .before .has-text .ensures), c .before .before .before .before .before .if1 .taken) (c .before .before .keep-text .ensures))
-    (λ c. rw (sym (c .before .has-text .ensures), c .if1 .left) (refl, refl)))
+    (λ c v w. rw (sym (c .before .before .before .before .before .before .has-text .ensures v w), sym (c .before .before .before .before .text .ensures), c .before .before .before .before .before .if1 .taken) (c .before .before .keep-text .ensures))
+    (λ c v w. rw (sym (c .before .has-text .ensures v w), c .if1 .left) (refl, refl)))

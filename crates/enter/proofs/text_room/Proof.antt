@@ -10,5 +10,5 @@ text-room-spec =
     (tie.spec
     (λ c κs. search needs)
     (λ c κs. search needs)
-    (λ c. rw (sym (c .before .before .has-text .ensures), c .before .if1 .taken) (c .plus .ensures))
-    (λ c. rw (sym (c .before .has-text .ensures), c .if1 .left)))
+    (λ c v w. rw (sym (c .before .before .has-text .ensures v w), c .before .if1 .taken) (c .plus .ensures))
+    (λ c v w. rw (sym (c .before .has-text .ensures v w), c .if1 .left)))

@@ -1,7 +1,7 @@
--- A beat that is not kept, or is. Assumes nothing.
-use borrow.Author.Tests.{not-true, not-false}
-use Rattle.beat.specs.Beat.{beatIn}
-use Rattle.draft.specs.Meant.{chordIn}
+-- A beat that is kept, or not. Assumes nothing.
+use mathlib.Core.Path.{sym, _∙_}
+use Rattle.beat.specs.Words.{beatIn}
+use Rattle.draft.specs.Chord.{chordIn}
 use Rattle.losses.proofs.Counting.{kept-losses, unkept-losses}
 use borrow.Author.Needs.{needs}
 use Rattle.losses.proofs.beat_losses.Statement.{statement}
@@ -12,12 +12,13 @@ beat-losses-spec =
     tie.close
     (tie.spec
     (λ c κs. search needs)
-    (λ c.
-    let a = c .before .before .before .before .before .args in
-    let s = a .s .now in
-    rw (c .before .before .reading-losses .ensures) (unkept-losses s (beatIn s (a .beat)) (chordIn s (a .beat .notes) (a .chord)) (a .losses) (not-true _ (c .if1 .taken))))
     (λ c κs. search needs)
-    (λ c.
-    let a = c .before .before .before .before .before .before .args in
-    let s = a .s .now in
-    rw (c .building-losses .ensures, c .before .before .before .reading-losses .ensures) (kept-losses s (beatIn s (a .beat)) (chordIn s (a .beat .notes) (a .chord)) (a .losses) (not-false _ (c .before .if1 .left)))))
+    (λ c κs. search needs)
+    (λ c s.
+    let a = c .before .before .before .before .before .before .before .args in
+    rw (c .building-losses .ensures s, c .before .before .before .before .reading-losses .ensures s)
+    (kept-losses s (beatIn s (a .v) (a .b .now) (a .notes .now)) (chordIn s (a .v) (a .notes .now) (a .chord .now)) (a .losses .now) (sym (c .before .before .before .kept .ensures) ∙ c .before .before .if1 .taken)))
+    (λ c s.
+    let a = c .before .before .before .before .before .args in
+    rw (c .before .before .reading-losses .ensures s)
+    (unkept-losses s (beatIn s (a .v) (a .b .now) (a .notes .now)) (chordIn s (a .v) (a .notes .now) (a .chord .now)) (a .losses .now) (sym (c .before .kept .ensures) ∙ c .if1 .left))))

@@ -11,4 +11,7 @@ built-losses-spec =
     (λ c κs. search needs)
     (λ c κs. search needs)
     (λ c κs. search needs)
-    (λ c. rw (c .report-if2 .ensures, c .before .is-beyond .ensures, c .before .before .report-if .ensures) (simp reports-append)))
+    (λ c κs. search needs)
+    (λ c κs. search needs)
+    (λ c κs. search needs)
+    (λ c v. rw (c .lose-if2 .ensures, c .before .is-beyond .ensures, c .before .before .before .left-hand .ensures v, c .before .before .before .before .lose-if .ensures, c .before .before .before .before .before .before .let-ring .ensures v, c .before .before .before .before .before .before .before .palm-mute .ensures v) (simp reports-append)))

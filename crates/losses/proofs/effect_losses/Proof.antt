@@ -12,4 +12,10 @@ effect-losses-spec =
     (λ c κs. search needs)
     (λ c κs. search needs)
     (λ c κs. search needs)
-    (λ c. rw (c .report-if4 .ensures, c .before .report-if3 .ensures, c .before .before .report-if2 .ensures, c .before .before .before .report-if .ensures) (simp reports-append)))
+    (λ c κs. search needs)
+    (λ c κs. search needs)
+    (λ c κs. search needs)
+    (λ c κs. search needs)
+    (λ c.
+    let v = c .before .before .before .before .before .before .before .before .before .before .before .before .args .v in
+    rw (c .lose-if4 .ensures, c .before .whammy-lost .ensures, c .before .before .before .lose-if3 .ensures, c .before .before .before .before .tapping-lost .ensures v, c .before .before .before .before .before .before .lose-if2 .ensures, c .before .before .before .before .before .before .before .rasgueado-lost .ensures v, c .before .before .before .before .before .before .before .before .before .lose-if .ensures, c .before .before .before .before .before .before .before .before .before .before .swell-lost .ensures v) (simp reports-append)))

@@ -1,16 +1,11 @@
 -- What is left of the chord. Assumes nothing.
-use Prim.Native.Nat.{_≤_, _-_}
+use Prim.Native.Nat.{ℕ, _≤_, _-_}
 use mathlib.Core.Path.{_≡_, sym, _∙_}
-use mathlib.Core.List.{map}
-use mathlib.Core.Logic.{⊎-elim}
+use mathlib.Core.List.{List}
 use native.Mathlib.Omega.{arith}
-use lib.ListN.{getD, take, drop, drop-of-length-le}
-use Rattle.note.specs.Marks.{noMarks}
+use lib.ListN.{length, drop, drop-of-length-le}
 use Rattle.score.specs.Losses.{memberLosses}
-use Rattle.draft.specs.Chord.{silent}
-use Rattle.draft.specs.Meant.{struckIn, chordIn}
-use Rattle.draft.specs.Voicing.{sizeOf, noStruck}
-use Rattle.draft.proofs.Notes.{past-strings}
+use Rattle.draft.specs.Chord.{chordIn}
 use Rattle.words.specs.Reports.{reports}
 use Rattle.words.proofs.Reports.{reports-none}
 use Rattle.losses.proofs.Counting.{members-next}
@@ -19,48 +14,36 @@ use Rattle.losses.proofs.member_losses.Statement.{statement}
 use Rattle.losses.proofs.member_losses.Tie as tie
 
 abbrev Inv-loop : tie.InvT-loop
-Inv-loop s notes chord n counts₀ i₀ counts i =
-    (i ≤ n)
-    × (reports (memberLosses (map (struckIn s notes) (drop i (take (chord .count) (chord .notes))))) counts ≡ reports (memberLosses (chordIn s notes chord)) counts₀)
+Inv-loop losses₀ notes chord i₀ losses i =
+    (i ≤ length chord)
+    × ((s : List ℕ) (v : ℕ) → reports (memberLosses (chordIn s v notes (drop i chord))) losses ≡ reports (memberLosses (chordIn s v notes chord)) losses₀)
 
 abbrev μ-loop : tie.MeasureT-loop
-μ-loop s notes chord n counts₀ i₀ counts i = n - i
-
--- the note that stands there, or none past the seven strings
-here : (c : tie.Joined1 Inv-loop μ-loop) →
-    let o = c .before .before .before .before in
-    let a = o .before .before .before .args in
-    c .if1 .note ≡ getD (a .t3) (getD (a .t4 .notes) (o .loop .i) noStruck .string) silent
-unfolding silent noMarks
-here c =
-    let g = c .before .before .before .before .before .before .before in
-    ⊎-elim (λ w. w .2) (λ w. w .1 ∙ past-strings (g .args .t3) _ (g .good .1 .1 .0 .1 .0 .1) (w .0 .left)) (c .if1 .came)
+μ-loop losses₀ notes chord i₀ losses i = length chord - i
 
 pub member-losses-spec : {M : Type 1} → statement M
-unfolding chordIn sizeOf
+unfolding chordIn
 member-losses-spec =
     tie.close
     (tie.spec
     Inv-loop
     μ-loop
+    (λ c. (search needs, λ s v. search needs))
+    (λ c. search needs)
+    (λ c. search needs)
     (λ c κs. search needs)
-    (λ c. search needs)
-    (λ c. search needs)
-    (λ c. search needs)
-    (λ c. search needs)
-    (λ c. search needs)
-    (λ c. search needs)
     (λ c κs. search needs)
     (λ c. search needs)
     (λ c. search needs)
     (λ c.
-    let n = c .before in
-    let o = n .before .before .before .before in
-    let a = o .before .before .before .args in (
+    let a = c .before .before .before .before .before .before .before .args in
+    let l = c .before .before .before .before .before .loop in
+    let test = c .before .before .before .before .loop-test .taken in (
       search needs,
-      rw (c .built-losses .ensures, here n)
-          (sym (members-next (a .s .now) (a .t3) (a .t4) noStruck (o .loop .i) (o .loop .counts) (omega (arith, o .before .size-of .ensures .0))) ∙ o .loop .inv .1),
+      λ s v. rw (c .built-losses .ensures v, c .before .string-of .ensures .0)
+          (sym (members-next s v (a .notes .now) (a .chord .now) (l .losses) (l .i) test) ∙ l .inv .1 s v),
     ))
-    (λ c.
-    let a = c .before .before .before .before .args in
-    rw (drop-of-length-le (take (a .t4 .count) (a .t4 .notes)) {i = c .before .loop .i} (omega (arith, c .before .before .size-of .ensures .0)), reports-none) at (c .before .loop .inv .1)))
+    (λ c s v.
+    let a = c .before .before .before .args in
+    let l = c .before .loop in
+    rw (drop-of-length-le (a .chord .now) {i = l .i} (omega arith), reports-none) at (l .inv .1 s v)))

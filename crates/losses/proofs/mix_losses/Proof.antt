@@ -10,4 +10,6 @@ mix-losses-spec =
     (tie.spec
     (λ c κs. search needs)
     (λ c κs. search needs)
-    (λ c. rw (c .report-if2 .ensures, c .before .report-if .ensures) (simp reports-append)))
+    (λ c κs. search needs)
+    (λ c κs. search needs)
+    (λ c. rw (c .lose-if2 .ensures, c .before .change-lost .ensures, c .before .before .before .lose-if .ensures, c .before .before .before .before .wah-lost .ensures) (simp reports-append)))

@@ -11,4 +11,9 @@ note-losses-spec =
     (λ c κs. search needs)
     (λ c κs. search needs)
     (λ c κs. search needs)
-    (λ c. rw (c .report-if3 .ensures, c .before .report-if2 .ensures, c .before .before .report-if .ensures) (simp reports-append)))
+    (λ c κs. search needs)
+    (λ c κs. search needs)
+    (λ c κs. search needs)
+    (λ c.
+    let v = c .before .before .before .before .before .before .before .before .before .args .v in
+    rw (c .lose-if3 .ensures, c .before .harmonic-lost .ensures v, c .before .before .before .lose-if2 .ensures, c .before .before .before .before .before .lose-if .ensures, c .before .before .before .before .before .before .right-hand-lost .ensures v, c .before .before .before .before .before .before .before .before .slide .ensures) (simp reports-append)))

@@ -1,25 +1,21 @@
--- What is left of the seven notes. Assumes nothing.
-use Prim.Native.Nat.{_≤_, _-_}
-use mathlib.Core.Path.{_≡_, sym, _∙_}
-use mathlib.Core.List.{map}
+-- String by string. Assumes nothing.
+use Prim.Native.Nat.{_<_, _%_}
 use native.Mathlib.Omega.{arith}
-use lib.ListN.{length, drop, drop-of-length-le}
-use Rattle.note.specs.Note.{noteIn}
-use Rattle.score.specs.Losses.{notesLosses}
-use Rattle.words.specs.Reports.{reports}
-use Rattle.words.proofs.Reports.{reports-none}
-use Rattle.losses.proofs.Counting.{unmapped, notes-next}
+use mathlib.Core.Path.{_≡_, refl, sym, _∙_}
+use Rattle.note.specs.Words.{overStrings}
+use Rattle.note.proofs.Strings.{other-less}
+use Rattle.note.proofs.Over.{over-next, over-none}
+use Rattle.losses.proofs.Counting.{oneNote, strings-losses}
 use borrow.Author.Needs.{needs}
 use Rattle.losses.proofs.notes_losses.Statement.{statement}
 use Rattle.losses.proofs.notes_losses.Tie as tie
 
 abbrev Inv-loop : tie.InvT-loop
-Inv-loop s strings notes counts₀ i₀ counts i =
-    (i ≤ 7)
-    × (reports (notesLosses strings i (map (noteIn s) (drop i notes))) counts ≡ reports (notesLosses strings 0 (map (noteIn s) notes)) counts₀)
+Inv-loop losses₀ strings notes v left₀ losses left =
+    (left < 128) × (overStrings (strings % 128) (oneNote v notes) losses₀ ≡ overStrings left (oneNote v notes) losses)
 
 abbrev μ-loop : tie.MeasureT-loop
-μ-loop s strings notes counts₀ i₀ counts i = 7 - i
+μ-loop losses₀ strings notes v left₀ losses left = left
 
 pub notes-losses-spec : {M : Type 1} → statement M
 notes-losses-spec =
@@ -28,20 +24,21 @@ notes-losses-spec =
     Inv-loop
     μ-loop
     (λ c. search needs)
-    (λ c. search needs)
-    (λ c. search needs)
+    (λ c. (omega arith, refl))
     (λ c κs. search needs)
-    (λ c. search needs)
-    (λ c. search needs)
+    (λ c κs. search needs)
+    (λ c κs. search needs)
     (λ c.
-    let o = c .before .before .before in
-    let a = o .before .before .args in
-    let h : length (a .t4) ≡ 7 = search (needs, unmapped) in (
-      search needs,
-      rw (c .string-losses .ensures)
-          (sym (notes-next (a .s .now) (a .strings) (a .t4) _ (o .loop .i) (o .loop .counts) (omega arith)) ∙ o .loop .inv .1),
-    ))
+    let l = c .before .before .before .before .before .loop in
+    let p : 0 < l .left = omega (arith, c .before .before .before .before .loop-test .taken) in
+    rw (c .other-strings .ensures, c .before .before .before .first-string .ensures) (other-less _ (l .inv .0) p))
     (λ c.
-    let a = c .before .before .before .args in
-    let h : length (a .t4) ≡ 7 = search (needs, unmapped) in
-    rw (drop-of-length-le (a .t4) {i = c .before .loop .i} (omega arith), reports-none) at (c .before .loop .inv .1)))
+    let l = c .before .before .before .before .before .loop in
+    let p : 0 < l .left = omega (arith, c .before .before .before .before .loop-test .taken) in
+    rw (c .other-strings .ensures, c .before .note-losses .ensures, c .before .before .before .first-string .ensures)
+    ((let x = other-less _ (l .inv .0) p in let y = l .inv .0 in omega arith), l .inv .1 ∙ over-next _ _ _ (l .inv .0) p))
+    (λ c s.
+    let a = c .before .before .args in
+    let l = c .before .loop in
+    let h : a .strings < 256 = search needs in
+    sym (sym (strings-losses s (a .v) (a .strings) (a .notes .now) (a .losses .now) h) ∙ l .inv .1 ∙ rw (c .loop-test .left) (over-none _ _))))

@@ -1,6 +1,6 @@
 -- One after another. Assumes nothing.
-use Rattle.score.specs.Losses.{readingLosses}
 use Rattle.format.specs.Prog.{has}
+use Rattle.score.specs.Losses.{readingLosses}
 use Rattle.words.proofs.Reports.{reports-append}
 use borrow.Author.Needs.{needs}
 use Rattle.losses.proofs.reading_losses.Statement.{statement}
@@ -15,4 +15,6 @@ reading-losses-spec =
     (λ c κs. search needs)
     (λ c κs. search needs)
     (λ c κs. search needs)
-    (λ c. rw (c .notes-losses .ensures, c .before .mix-losses .ensures, c .before .before .effect-losses .ensures, c .before .before .before .report-if .ensures) (simp reports-append)))
+    (λ c κs. search needs)
+    (λ c κs. search needs)
+    (λ c s. rw (c .notes-losses .ensures s, c .before .strings .ensures, c .before .before .before .mix-losses .ensures, c .before .before .before .before .before .effect-losses .ensures, c .before .before .before .before .before .before .before .lose-if .ensures, c .before .before .before .before .before .before .before .before .flags .ensures) (simp reports-append)))

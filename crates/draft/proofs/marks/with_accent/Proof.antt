@@ -10,6 +10,8 @@ with-accent-spec =
     tie.close
     (tie.spec
     (λ c κs. search needs)
-    (λ c. rw (c .before .if1 .taken) (c .added .ensures))
     (λ c κs. search needs)
-    (λ c. rw (c .before .if1 .left) (c .added-if .ensures)))
+    (λ c v. rw (← c .before .before .heavy-accent .ensures v, c .before .if1 .taken) (c .added .ensures))
+    (λ c κs. search needs)
+    (λ c κs. search needs)
+    (λ c v. rw (← c .before .before .before .heavy-accent .ensures v, c .before .before .if1 .left, ← c .before .accent .ensures v) (c .added-if .ensures)))

@@ -13,4 +13,17 @@ with-beat-spec =
     (λ c κs. search needs)
     (λ c κs. search needs)
     (λ c κs. search needs)
-    (λ c. simp (add-both, c .added-if2 .ensures, c .before .added-if .ensures, c .before .before .with-bow .ensures)))
+    (λ c κs. search needs)
+    (λ c κs. search needs)
+    (λ c κs. search needs)
+    (λ c.
+    let v = c .before .before .before .before .before .before .args .v in
+    simp (
+      add-both,
+      c .added-if2 .ensures,
+      c .before .tap .ensures v,
+      c .before .before .added-if .ensures,
+      c .before .before .before .vibrato .ensures,
+      c .before .before .before .before .with-bow .ensures,
+      c .before .before .before .before .before .pick .ensures v,
+    )))

@@ -11,4 +11,14 @@ grace-member-spec =
     (tie.spec
     (λ c κs. search needs)
     (λ c κs. search needs)
-    (λ c. rw (c .grace-key .ensures, c .before .position-of .ensures)))
+    (λ c κs. search needs)
+    (λ c κs. search needs)
+    (λ c κs. search needs)
+    (λ c s v.
+    rw (
+      c .grace-key .ensures,
+      c .before .fret .ensures v,
+      c .before .before .key-of .ensures,
+      c .before .before .before .position-of .ensures,
+      c .before .before .before .before .string-of .ensures .0,
+    )))

@@ -12,4 +12,23 @@ member-of-spec =
     (λ c κs. search needs)
     (λ c κs. search needs)
     (λ c κs. search needs)
-    (λ c. rw (c .flat-of .ensures, c .before .finger-of .ensures, c .before .before .position-of .ensures)))
+    (λ c κs. search needs)
+    (λ c κs. search needs)
+    (λ c κs. search needs)
+    (λ c κs. search needs)
+    (λ c κs. search needs)
+    (λ c κs. search needs)
+    (λ c κs. search needs)
+    (λ c s v.
+    rw (
+      c .tied .ensures v,
+      c .before .ghosted .ensures v,
+      c .before .before .flat-of .ensures,
+      c .before .before .before .swap-accidental .ensures v,
+      c .before .before .before .before .key-of .ensures,
+      c .before .before .before .before .before .finger-of .ensures,
+      c .before .before .before .before .before .before .position-of .ensures,
+      c .before .before .before .before .before .before .before .fret-of .ensures,
+      c .before .before .before .before .before .before .before .before .left-hand .ensures v,
+      c .before .before .before .before .before .before .before .before .before .string-of .ensures .0,
+    )))

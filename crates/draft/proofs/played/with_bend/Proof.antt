@@ -9,5 +9,5 @@ with-bend-spec =
     tie.close
     (tie.spec
     (λ c κs. search needs)
-    (λ c. rw (bent-is, ← c .before .none-yet .ensures, c .if1 .taken))
-    (λ c. rw (bent-is, ← c .before .none-yet .ensures, c .if1 .left)))
+    (λ c s. rw (bent-is, ← c .before .none-yet .ensures, c .if1 .taken))
+    (λ c s. rw (bent-is, ← c .before .none-yet .ensures, c .if1 .left)))

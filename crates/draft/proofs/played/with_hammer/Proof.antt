@@ -9,7 +9,6 @@ with-hammer-spec =
     (tie.spec
     (λ c κs. search needs)
     (λ c κs. search needs)
-    (λ c.
-    let o = c .before .before in
-    rw (← o .before .before .none-yet .ensures, o .if1 .taken, c .hammer-text .ensures))
-    (λ c. rw (← c .before .before .none-yet .ensures, c .if1 .left)))
+    (λ c κs. search needs)
+    (λ c s v. rw (← c .before .before .before .before .hammer .ensures v, ← c .before .before .before .none-yet .ensures, c .before .before .if1 .taken, c .hammer-text .ensures))
+    (λ c s v. rw (← c .before .before .hammer .ensures v, ← c .before .none-yet .ensures, c .if1 .left)))

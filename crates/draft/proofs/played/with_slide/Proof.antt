@@ -8,5 +8,6 @@ with-slide-spec =
     tie.close
     (tie.spec
     (λ c κs. search needs)
-    (λ c. rw (← c .before .before .before .none-yet .ensures, c .before .if1 .taken))
-    (λ c. rw (← c .before .before .none-yet .ensures, c .if1 .left)))
+    (λ c κs. search needs)
+    (λ c s. rw (← c .before .before .before .before .slide .ensures, ← c .before .before .before .none-yet .ensures, c .before .if1 .taken))
+    (λ c s. rw (← c .before .before .before .slide .ensures, ← c .before .before .none-yet .ensures, c .if1 .left)))

@@ -7,7 +7,9 @@ pub with-text-spec : {M : Type 1} → statement M
 with-text-spec =
     tie.close
     (tie.spec
-    (λ c. rw (c .if1 .taken))
     (λ c κs. search needs)
-    (λ c. rw (c .before .before .before .if1 .left, ← c .before .before .none-text .ensures, c .if2 .taken))
-    (λ c. rw (c .before .before .before .if1 .left, ← c .before .before .none-text .ensures, c .if2 .left)))
+    (λ c s v. rw (← c .before .palm-mute .ensures v, c .if1 .taken))
+    (λ c κs. search needs)
+    (λ c κs. search needs)
+    (λ c s v. rw (← c .before .before .before .before .palm-mute .ensures v, c .before .before .before .if1 .left, ← c .before .before .let-ring .ensures v, ← c .before .none-text .ensures, c .if2 .taken))
+    (λ c s v. rw (← c .before .before .before .before .palm-mute .ensures v, c .before .before .before .if1 .left, ← c .before .before .let-ring .ensures v, ← c .before .none-text .ensures, c .if2 .left)))

@@ -13,15 +13,20 @@ chord-row-spec =
     (λ c κs. search needs)
     (λ c κs. search needs)
     (λ c κs. search needs)
-    (λ c.
-    let o = c .before .before .before .before in
+    (λ c κs. search needs)
+    (λ c κs. search needs)
+    (λ c κs. search needs)
+    (λ c s board flat.
+    let o = c .before .before .before .before .before in
+    let a = o .before .before .before .before .before .before .args in
     let v = o .before .before .before .before .voicing-of .ensures in
     rw (
-      c .members-of .ensures,
-      c .before .value-of .ensures,
-      o .level-after .ensures,
-      v .1 .1 .1,
-      v .1 .1 .0,
-      v .1 .0,
-      ← v .0,
+      c .value-of .ensures s (a .v) (a .notes .now),
+      c .before .chord .ensures,
+      c .before .before .ottava .ensures,
+      c .before .before .before .head-of .ensures s (a .v),
+      c .before .before .before .before .brush .ensures,
+      o .before .level-of .ensures s (a .v),
+      v .1 s,
+      ← v .0 s,
     )))

@@ -3,15 +3,16 @@ use borrow.Author.Needs.{needs}
 use Rattle.curve.specs.Bend.{finish}
 use Rattle.note.specs.Points.{pointsAt}
 use Rattle.score.specs.Rows.{restRow}
-use Rattle.draft.specs.Meant.{membersIn}
 use Rattle.draft.proofs.rows.rest_row.Statement.{statement}
 use Rattle.draft.proofs.rows.rest_row.Tie as tie
 
 pub rest-row-spec : {M : Type 1} → statement M
-unfolding restRow membersIn pointsAt finish
+unfolding restRow pointsAt finish
 rest-row-spec =
     tie.close
     (tie.spec
     (λ c κs. search needs)
     (λ c κs. search needs)
-    (λ c. rw (c .none-added .ensures, c .before .value-of .ensures)))
+    (λ c κs. search needs)
+    (λ c κs. search needs)
+    (λ c s v w. rw (c .none-added .ensures, c .before .value-of .ensures s v w, c .before .before .chord .ensures, c .before .before .before .ottava .ensures)))

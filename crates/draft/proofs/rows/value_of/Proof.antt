@@ -1,5 +1,5 @@
--- By its flag. Assumes nothing.
-use mathlib.Core.Path.{refl}
+-- By its fields. Assumes nothing.
+use borrow.Author.Needs.{needs}
 use Rattle.format.specs.Prog.{has}
 use Rattle.draft.proofs.rows.value_of.Statement.{statement}
 use Rattle.draft.proofs.rows.value_of.Tie as tie
@@ -9,4 +9,7 @@ unfolding has
 value-of-spec =
     tie.close
     (tie.spec
-    (λ c. refl))
+    (λ c κs. search needs)
+    (λ c κs. search needs)
+    (λ c κs. search needs)
+    (λ c s v w. rw (c .flags .ensures, c .before .tuplet .ensures, c .before .before .duration .ensures)))

@@ -1,4 +1,5 @@
 -- Field by field. Assumes nothing.
+use mathlib.Core.List.{[]}
 use Rattle.losses.proofs.Sums.{plus-cut}
 use Rattle.words.specs.Counted.{countTally}
 use borrow.Author.Needs.{needs}
@@ -15,12 +16,12 @@ count-beat-spec =
     (λ c κs. search needs)
     (λ c κs. search needs)
     (λ c κs. search needs)
-    (λ c.
+    (λ c v lost.
     rw (
       c .plus .ensures,
-      c .before .bend-rooms .ensures,
+      c .before .bend-rooms .ensures (c .before .before .before .before .before .before .before .before .before .args .s .now) v,
       plus-cut _ _,
-      c .before .before .text-room .ensures,
-      c .before .before .before .kept-of .ensures,
+      c .before .before .text-room .ensures v [],
+      c .before .before .before .kept-of .ensures (c .before .before .before .before .before .before .before .before .before .args .s .now) v,
       c .before .before .before .before .before .before .board-at .ensures,
     )))

@@ -1,28 +1,26 @@
--- What is left of the seven notes. Assumes nothing.
-use Prim.Native.Nat.{_+_, _-_, _≤_}
-use mathlib.Core.Path.{_≡_, sym, _∙_}
-use mathlib.Core.List.{map}
+-- String by string. Assumes nothing.
+use Prim.Native.Nat.{ℕ, _+_, _≤_, _<_}
+use mathlib.Core.Path.{_≡_, refl, sym, _∙_}
+use mathlib.Core.List.{List}
 use native.Mathlib.Omega.{arith}
-use lib.ListN.{length, drop, drop-of-length-le}
-use Rattle.note.specs.Note.{noteIn}
-use Rattle.draft.specs.Chord.{silent}
-use Rattle.losses.proofs.Counting.{unmapped}
-use Rattle.words.specs.Counted.{oneNote, graceOf, heard}
-use Rattle.enter.proofs.Heard.{heard-next}
+use Rattle.note.specs.Words.{overStrings}
+use Rattle.note.proofs.Strings.{other-less}
+use Rattle.note.proofs.Over.{over-next, over-none}
+use Rattle.words.specs.Counted.{oneNote, graceOf}
+use Rattle.enter.proofs.Heard.{adding, over-heard}
 use borrow.Author.Needs.{needs}
 use Rattle.enter.proofs.count.heard_of.Statement.{statement}
 use Rattle.enter.proofs.count.heard_of.Tie as tie
 
 abbrev Inv-loop : tie.InvT-loop
-Inv-loop s board bits list notes₀ graces₀ i₀ notes graces i =
-    (i ≤ 7)
-    × (notes ≤ i)
-    × (graces ≤ i)
-    × (notes + heard oneNote bits (board .strings .count) i (map (noteIn s) (drop i list)) ≡ heard oneNote bits (board .strings .count) 0 (map (noteIn s) list))
-    × (graces + heard graceOf bits (board .strings .count) i (map (noteIn s) (drop i list)) ≡ heard graceOf bits (board .strings .count) 0 (map (noteIn s) list))
+Inv-loop b notes strings count₀ graces₀ left₀ count graces left =
+    (count + left < 128)
+    × (graces ≤ count)
+    × ((s : List ℕ) (v : ℕ) → overStrings left₀ (adding oneNote s v notes) 0 ≡ overStrings left (adding oneNote s v notes) count)
+    × ((s : List ℕ) (v : ℕ) → overStrings left₀ (adding graceOf s v notes) 0 ≡ overStrings left (adding graceOf s v notes) graces)
 
 abbrev μ-loop : tie.MeasureT-loop
-μ-loop s board bits list notes₀ graces₀ i₀ notes graces i = 7 - i
+μ-loop b notes strings count₀ graces₀ left₀ count graces left = left
 
 pub heard-of-spec : {M : Type 1} → statement M
 heard-of-spec =
@@ -30,33 +28,40 @@ heard-of-spec =
     (tie.spec
     Inv-loop
     μ-loop
-    (λ c. (omega arith, omega arith, omega arith, omega arith, omega arith))
-    (λ c. search needs)
-    (λ c. search needs)
+    (λ c κs. search needs)
+    (λ c κs. search needs)
+    (λ c. (omega (arith, c .that-sound .ensures .0), omega arith, (λ s v. refl), (λ s v. refl)))
+    (λ c κs. search needs)
+    (λ c κs. search needs)
+    (λ c. omega (arith, c .before .before .before .loop .inv .0))
     (λ c κs. search needs)
     (λ c.
-    let l = c .before .before .before .before .before .loop in
-    omega (arith, l .inv .0, l .inv .1, c .before .string-heard .ensures .1 .1 .0))
+    let l = c .before .before .before .before .loop in
+    omega (arith, l .inv .0, l .inv .1, c .one-grace .ensures .1))
+    (λ c κs. search needs)
     (λ c.
-    let l = c .before .before .before .before .before .before .loop in
-    omega (arith, l .inv .0, l .inv .2, c .before .before .string-heard .ensures .1 .1 .1))
-    (λ c. search needs)
-    (λ c. search needs)
+    let g = c .before .before .before .before in
+    let l = g .before .loop in
+    rw (c .other-strings .ensures, c .before .before .before .first-string .ensures) (other-less (l .left) (omega (arith, l .inv .0)) (omega (arith, g .loop-test .taken))))
     (λ c.
-    let h = c .before .before .string-heard .ensures in
-    let o = c .before .before .before .before .before .before in
-    let l = o .loop in
-    let a = o .before .before .args in
-    let long : length (a .t4) ≡ 7 = search (needs, unmapped) in (
-      search needs,
-      omega (arith, l .inv .1, h .1 .1 .0),
-      omega (arith, l .inv .2, h .1 .1 .1),
-      rw (h .0) (sym (heard-next (a .s .now) oneNote (a .bits) (a .board .strings .count) (a .t4) silent (l .i) (l .notes) (omega arith)) ∙ l .inv .3),
-      rw (h .1 .0) (sym (heard-next (a .s .now) graceOf (a .bits) (a .board .strings .count) (a .t4) _ (l .i) (l .graces) (omega arith)) ∙ l .inv .4),
+    let g = c .before .before .before .before in
+    let l = g .before .loop in
+    let a = g .before .before .before .before .args in
+    let first = c .before .before .before .first-string .ensures in
+    let m : l .left < 128 = omega (arith, l .inv .0) in
+    let p : 0 < l .left = omega (arith, g .loop-test .taken) in
+    let less : c .other-strings .result < l .left = rw (c .other-strings .ensures, first) (other-less (l .left) m p) in (
+      omega (arith, l .inv .0, less),
+      omega (arith, l .inv .1, c .before .one-grace .ensures .1),
+      (λ s v. rw (c .other-strings .ensures, first) (l .inv .2 s v ∙ over-next (adding oneNote s v (a .notes .now)) (l .left) (l .count) m p)),
+      (λ s v.
+          rw (c .other-strings .ensures, c .before .one-grace .ensures .0, c .before .before .grace .ensures v, first)
+          (l .inv .3 s v ∙ over-next (adding graceOf s v (a .notes .now)) (l .left) (l .graces) m p)),
     ))
     (λ c.
-    let o = c .before in
-    let a = o .before .before .args in
-    let long : length (a .t4) ≡ 7 = search (needs, unmapped) in
-    let none = drop-of-length-le (a .t4) {i = o .loop .i} (omega arith) in
-    (omega (arith, rw none at (o .loop .inv .3)), omega (arith, rw none at (o .loop .inv .4)))))
+    let l = c .before .loop in
+    let a = c .before .before .before .before .args in
+    let h = rw (c .before .before .before .strings .ensures) at (c .before .before .that-sound .ensures .1) in (
+      (λ s v. sym (l .inv .2 s v ∙ rw (c .loop-test .left) (over-none (adding oneNote s v (a .notes .now)) (l .count))) ∙ over-heard oneNote s v (a .notes .now) _ _ _ h),
+      (λ s v. sym (l .inv .3 s v ∙ rw (c .loop-test .left) (over-none (adding graceOf s v (a .notes .now)) (l .graces))) ∙ over-heard graceOf s v (a .notes .now) _ _ _ h),
+    )))

@@ -1,5 +1,6 @@
 -- By whether the beat is kept. Assumes nothing.
 use borrow.Author.Needs.{needs}
+use mathlib.Core.Path.{sym}
 use Rattle.enter.proofs.count.kept_of.Statement.{statement}
 use Rattle.enter.proofs.count.kept_of.Tie as tie
 
@@ -9,7 +10,8 @@ kept-of-spec =
     (tie.spec
     (λ c κs. search needs)
     (λ c κs. search needs)
-    (λ c.
+    (λ c κs. search needs)
+    (λ c s v.
     let heard = c .before .heard-of .ensures in
-    rw (c .before .before .before .if1 .taken) (rw (heard .0, heard .1) at (c .kept-with .ensures)))
-    (λ c. rw (c .if1 .left)))
+    rw (sym (c .before .before .before .kept .ensures), c .before .before .if1 .taken) (rw (heard .0 s v, heard .1 s v) at (c .kept-with .ensures)))
+    (λ c s v. rw (sym (c .before .kept .ensures), c .if1 .left)))

@@ -9,6 +9,6 @@ pub bend-room-spec : {M : Type 1} → statement M
 bend-room-spec =
     tie.close
     (tie.spec
-    (λ c. no-room _ _ (c .if1 .taken))
+    (λ c s. no-room s _ (c .if1 .taken))
     (λ c κs. search needs)
-    (λ c. c .plus .ensures ∙ room _ _ _ (c .before .if1 .left)))
+    (λ c s. c .plus .ensures ∙ room s _ _ (c .before .if1 .left)))

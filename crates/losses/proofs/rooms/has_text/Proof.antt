@@ -1,7 +1,10 @@
 -- By its range. Assumes nothing.
 use mathlib.Core.Path.{ap}
 use mathlib.Core.Bool.{Bool, _&&_}
+use Rattle.note.specs.Words.{byteIn}
+use Rattle.beat.specs.Words.{FLAGS, headIn, textRange}
 use Rattle.losses.proofs.Sums.{text-there}
+use borrow.Author.Needs.{needs}
 use Rattle.losses.proofs.rooms.has_text.Statement.{statement}
 use Rattle.losses.proofs.rooms.has_text.Tie as tie
 
@@ -9,6 +12,10 @@ pub has-text-spec : {M : Type 1} → statement M
 has-text-spec =
     tie.close
     (tie.spec
-    (λ c.
+    (λ c κs. search needs)
+    (λ c κs. search needs)
+    (λ c v w.
     let a = c .before .before .before .before .before .args in
-    ap (λ (t : Bool). a .beat .head .kept && t) (text-there (a .beat .text .start) (a .beat .text .end) (a .s .now))))
+    let r = textRange (byteIn (a .b .now) FLAGS) (a .b .now) in
+    rw (c .before .before .kept .ensures, c .before .before .before .text .ensures)
+    (ap (λ (t : Bool). headIn (a .b .now) .kept && t) (text-there (r .start) (r .end) (a .s .now)))))

@@ -1,5 +1,7 @@
 -- Table by table. Assumes nothing.
-use Rattle.page.proofs.Rowing.{row-kept}
+use Rattle.note.specs.Points.{bendIn}
+use Rattle.score.specs.Rows.{curveOf}
+use Rattle.page.proofs.Rowing.{bends-by, row-kept}
 use borrow.Author.Needs.{needs}
 use Rattle.page.proofs.keep.keep_row.Statement.{statement}
 use Rattle.page.proofs.keep.keep_row.Tie as tie
@@ -12,17 +14,14 @@ keep-row-spec =
     (λ c κs. search needs)
     (λ c κs. search needs)
     (λ c κs. search needs)
-    (λ c κs. search needs)
-    (λ c κs. search needs)
     (λ c. search needs)
     (λ c. search needs)
-    (λ c. search needs)
-    (λ c.
-    let members = c .before .before .before .before in
-    let ties = members .before .before .before .before in
-    let row = ties .before .before .before .before in
+    (λ c ms members sums.
+    let row = c .before .before .before .before in
     let curve = row .before .before .before .before in
-    let a = curve .before .before .before .before .before .before .before .before .before .args in
-    row-kept (a .s .now) (a .draft) (a .kept) (a .voice) (a .rows .now) (a .members .now) (a .points .now)
-    (curve .add-curve .ensures .1) (curve .add-curve .ensures .0) (row .add-row .ensures) (ties .start-ties .ensures) (members .add-members .ensures)
-    (c .before .kept-after .ensures) (c .voice-after .ensures)))
+    let a = curve .before .before .before .before .before .before .args in
+    let its = curveOf (bendIn (a .s .now) (a .draft .bend)) in
+    let bent = curve .add-curve .ensures .1 in
+    row-kept (a .s .now) (a .kept) (a .voice) (a .rows .now) members (a .points .now) ms (a .draft) (a .company) sums
+    bent (curve .add-curve .ensures .0) (row .add-row .ensures ms its sums (bends-by its bent))
+    (c .before .kept-after .ensures) (c .voice-after .ensures ms its sums)))

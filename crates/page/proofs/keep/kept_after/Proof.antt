@@ -9,14 +9,5 @@ kept-after-spec =
     (tie.spec
     (λ c κs. search needs)
     (λ c κs. search needs)
-    (λ c. search needs)
     (λ c κs. search needs)
-    (λ c κs. search needs)
-    (λ c.
-    let members = c .before .before in
-    rw (
-      members .before .plus .ensures,
-      c .before .plus2 .ensures,
-      members .number-of .ensures .0,
-      c .plus3 .ensures,
-    )))
+    (λ c. rw (c .before .before .plus .ensures, c .before .plus2 .ensures, c .plus3 .ensures)))

@@ -1,7 +1,6 @@
--- The only member, where there is one. Assumes nothing.
-use mathlib.Core.Path.{sym, _∙_}
-use Rattle.draft.specs.Meant.{membersIn}
-use Rattle.page.proofs.Taken.{only-finger, no-finger}
+-- By the number of notes. Assumes nothing.
+use mathlib.Core.Path.{_∙_}
+use Rattle.page.proofs.Gathering.{only-finger, no-finger}
 use borrow.Author.Needs.{needs}
 use Rattle.page.proofs.members.plain_finger.Statement.{statement}
 use Rattle.page.proofs.members.plain_finger.Tie as tie
@@ -10,11 +9,15 @@ pub plain-finger-spec : {M : Type 1} → statement M
 plain-finger-spec =
     tie.close
     (tie.spec
-    (λ c κs. search needs)
     (λ c. search needs)
-    (λ c.
-    let test = c .before .before in
-    only-finger (test .before .before .args .members) (sym (test .before .number-of .ensures .0) ∙ test .if1 .taken))
-    (λ c.
-    no-finger (membersIn (c .before .before .args .members))
-    (λ e. c .if1 .left (c .before .number-of .ensures .0 ∙ e))))
+    (λ c κs. search needs)
+    (λ c κs. search needs)
+    (λ c κs. search needs)
+    (λ c s v board flat.
+    let test = c .before .before .before .before in
+    let a = test .before .before .args in
+    only-finger s v (a .notes .now) board flat (a .chord .now) (test .if1 .taken)
+    ∙ rw (c .finger-of .ensures, c .before .left-hand .ensures v, c .before .before .string-of .ensures .0))
+    (λ c s v board flat.
+    let a = c .before .before .args in
+    no-finger s v (a .notes .now) board flat (a .chord .now) (c .if1 .left)))

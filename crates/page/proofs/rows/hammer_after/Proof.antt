@@ -10,8 +10,5 @@ hammer-after-spec =
     tie.close
     (tie.spec
     (λ c κs. search needs)
-    (λ c κs. search needs)
-    (λ c.
-    let test = c .before .before in
-    picked _ (sym (test .before .is-marked .ensures) ∙ test .if1 .taken) (rw (c .first-key .ensures)))
-    (λ c. passed _ (sym (c .before .is-marked .ensures) ∙ c .if1 .left) refl))
+    (λ c ms ps sums. picked _ (sym (c .before .is-marked .ensures) ∙ c .if1 .taken) (rw (sums .key)))
+    (λ c ms ps sums. passed _ (sym (c .before .is-marked .ensures) ∙ c .if1 .left) refl))

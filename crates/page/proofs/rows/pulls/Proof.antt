@@ -1,5 +1,5 @@
 -- By the first member. Assumes nothing.
-use borrow.Author.Needs.{needs}
+use Rattle.page.proofs.Drawing.{pulled}
 use Rattle.page.proofs.rows.pulls.Statement.{statement}
 use Rattle.page.proofs.rows.pulls.Tie as tie
 
@@ -7,5 +7,4 @@ pub pulls-spec : {M : Type 1} → statement M
 pulls-spec =
     tie.close
     (tie.spec
-    (λ c κs. search needs)
-    (λ c. rw (c .lower-first .ensures)))
+    (λ c ms ps sums. let a = c .before .before .before .args in pulled ms ps (a .draft) (a .company) (a .key) sums))

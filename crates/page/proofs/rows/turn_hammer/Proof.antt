@@ -11,14 +11,15 @@ turn-hammer-spec =
     (tie.spec
     (λ c. search needs)
     (λ c. search needs)
-    (λ c. rw (c .enum-told .given .1))
+    (λ c ms ps sums. rw (c .enum-told .given .1))
     (λ c κs. search needs)
     (λ c. search needs)
     (λ c κs. search needs)
     (λ c. search needs)
-    (λ c.
+    (λ c ms ps sums.
     let test = c .before .before .before .before in
     rw (test .before .before .before .hammer .given .1)
-    (picked _ (sym (test .before .pulls .ensures) ∙ test .if1 .taken) (c .before .before .set-technique .ensures)))
-    (λ c.
-    rw (c .before .before .before .hammer .given .1) (passed _ (sym (c .before .pulls .ensures) ∙ c .if1 .left) refl)))
+    (picked _ (sym (test .before .pulls .ensures ms ps sums) ∙ test .if1 .taken) (c .before .before .set-technique .ensures)))
+    (λ c ms ps sums.
+    rw (c .before .before .before .hammer .given .1)
+    (passed _ (sym (c .before .pulls .ensures ms ps sums) ∙ c .if1 .left) refl)))

@@ -1,0 +1,15 @@
+-- By the note, then by the beat. Assumes nothing.
+use borrow.Author.Needs.{needs}
+use Rattle.draft.proofs.marks.harmonic.Statement.{statement}
+use Rattle.draft.proofs.marks.harmonic.Tie as tie
+
+pub harmonic-spec : {M : Type 1} → statement M
+harmonic-spec =
+    tie.close
+    (tie.spec
+    (λ c κs. search needs)
+    (λ c κs. search needs)
+    (λ c κs. search needs)
+    (λ c.
+    let a = c .before .before .before .args in
+    rw (c .artificial-harmonic .ensures, c .before .natural-harmonic .ensures, c .before .before .harmonic .ensures (a .v))))

@@ -1,0 +1,8 @@
+-- A word is stored. Assumes nothing.
+use borrow.Author.Needs.{needs}
+use Rattle.note.proofs.Stores.{stored}
+use Rattle.note.proofs.places.store.Statement.{statement}
+use Rattle.note.proofs.places.store.Tie as tie
+
+pub store-spec : {M : Type 1} → statement M
+store-spec = tie.close (tie.spec (λ c. search needs) (λ c. search needs) (λ c. search needs) (λ c. stored _ _ _ (search needs)))
