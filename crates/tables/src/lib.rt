@@ -1,7 +1,7 @@
 // Flat tables of words that a caller lends: entries of a fixed number of words (the stride), one after another from the start.
 // Total: a word past the end loads as 0 and a store past the end does nothing, at every index. Nothing of music.
 ghost use mathlib.Core.Path.{_≡_};
-ghost use Prim.Native.Nat.{_+_, _*_, _/_, _%_};
+ghost use Prim.Native.Nat.{_+_, _*_, _/_, _%_, _<_, _≤_};
 ghost use Prim.Native.Nat.{min};
 ghost use lib.ListN.{length, getD, set};
 ghost use lib.Seq.{sets};
@@ -24,6 +24,30 @@ pub fn store(t: &mut [u32], at: usize, word: u32)
     }
 }
 
+// Words for which there is room: no test for each.
+fn store_all(t: &mut [u32], at: usize, w: &[u32])
+    requires { ⌜ at + length (now w) ≤ length (now t) ⌝ }
+    ensures { λ _. ⌜ now (t .exit) ≡ sets (now (t .entry)) at (now (w .entry)) ⌝ }
+{
+    let mut j: usize = 0;
+    while j < w.len() {
+        t[at + j] = w[j];
+        j += 1;
+    }
+}
+
+// Words of which some may stand past the end.
+fn store_some(t: &mut [u32], at: usize, w: &[u32])
+    requires { ⌜ at < length (now t) ⌝ }
+    ensures { λ _. ⌜ now (t .exit) ≡ sets (now (t .entry)) at (now (w .entry)) ⌝ }
+{
+    let mut j: usize = 0;
+    while j < w.len() {
+        store(t, at + j, w[j]);
+        j += 1;
+    }
+}
+
 // Words one after another from `at` on, as far as the table goes.
 pub fn store_words(t: &mut [u32], at: usize, w: &[u32])
     ensures { λ _. ⌜ now (t .exit) ≡ sets (now (t .entry)) at (now (w .entry)) ⌝ }
@@ -31,15 +55,11 @@ pub fn store_words(t: &mut [u32], at: usize, w: &[u32])
     if t.len() <= at {
         return;
     }
-    let left = t.len() - at;
-    let mut j: usize = 0;
-    while j < w.len() {
-        if left <= j {
-            return;
-        }
-        t[at + j] = w[j];
-        j += 1;
+    if w.len() <= t.len() - at {
+        store_all(t, at, w);
+        return;
     }
+    store_some(t, at, w);
 }
 
 // Where entry `i` starts, or the table's end if it would start past that. The product is made only where it cannot wrap.

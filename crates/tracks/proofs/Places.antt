@@ -6,7 +6,7 @@ use native.Mathlib.Omega.{arith}
 use native.Mathlib.Decide.{decLe}
 use native.Mathlib.Nat.{add-zero, min-eq-left, min-eq-right}
 use lib.ListN.{length, getD, set, take, drop, length-append, length-drop, drop-of-length-le}
-use lib.Seq.{sets, getD-drop, take-all}
+use lib.Seq.{sets, getD-drop, getD-take, take-all}
 use Rattle.tables.specs.Laws.{sets-append}
 use Rattle.score.specs.declared.Hammer.{Hammer}
 use Rattle.score.specs.declared.Hammer.the-variants.{NoHammer, Waits}
@@ -17,7 +17,7 @@ use Rattle.score.specs.declared.Voice.{Voice}
 use Rattle.score.specs.Page.{noVoice, boardOf, partOf}
 use Rattle.curve.specs.Level.{forte}
 use Rattle.track.specs.declared.Track.{Track}
-use Rattle.words.specs.Words.{voicePlace, fretWord, fretOf, hammerWords, runWords, voiceWords, boardWords, partWords, voiceFrom}
+use Rattle.words.specs.Words.{voicePlace, fretWord, fretOf, hammerWords, runWords, voiceWords, boardWords, partWords, boardFrom, voiceFrom}
 
 -- from a place that is cut at the end, the same words are left
 pub left-from : (t : List ℕ) (m at : ℕ) → at ≡ min m (length t) → take (length t - at) (drop at t) ≡ drop m t
@@ -36,6 +36,50 @@ pub fret-there : (word : ℕ) → (word ≡ 0 → ⊥) → fretOf word ≡ Fret 
 unfolding fretOf
 fret-there zero h = absurd (h refl)
 fret-there (suc f) h = let e : suc f - 1 ≡ f = omega arith in rw e
+
+-- a board by the words from its place on, of which eleven are enough
+pub board-from : (at : ℕ) (t : List ℕ) → boardFrom 0 (drop at t) ≡ boardFrom at t
+unfolding boardFrom
+board-from at t = simp (getD-drop, add-zero)
+
+pub board-taken : (t : List ℕ) → boardFrom 0 (take 11 t) ≡ boardFrom 0 t
+unfolding boardFrom
+board-taken t =
+    rw (
+      getD-take 11 t 0 0 (omega arith),
+      getD-take 11 t 1 0 (omega arith),
+      getD-take 11 t 2 0 (omega arith),
+      getD-take 11 t 3 0 (omega arith),
+      getD-take 11 t 4 0 (omega arith),
+      getD-take 11 t 5 0 (omega arith),
+      getD-take 11 t 6 0 (omega arith),
+      getD-take 11 t 7 0 (omega arith),
+      getD-take 11 t 8 0 (omega arith),
+      getD-take 11 t 9 0 (omega arith),
+      getD-take 11 t 10 0 (omega arith),
+    )
+
+-- a voice by fifteen words
+pub voice-taken : (t : List ℕ) → voiceFrom 0 (take 15 t) ≡ voiceFrom 0 t
+unfolding voiceFrom
+voice-taken t =
+    rw (
+      getD-take 15 t 0 0 (omega arith),
+      getD-take 15 t 1 0 (omega arith),
+      getD-take 15 t 2 0 (omega arith),
+      getD-take 15 t 3 0 (omega arith),
+      getD-take 15 t 4 0 (omega arith),
+      getD-take 15 t 5 0 (omega arith),
+      getD-take 15 t 6 0 (omega arith),
+      getD-take 15 t 7 0 (omega arith),
+      getD-take 15 t 8 0 (omega arith),
+      getD-take 15 t 9 0 (omega arith),
+      getD-take 15 t 10 0 (omega arith),
+      getD-take 15 t 11 0 (omega arith),
+      getD-take 15 t 12 0 (omega arith),
+      getD-take 15 t 13 0 (omega arith),
+      getD-take 15 t 14 0 (omega arith),
+    )
 
 -- a voice by the words from its place on
 pub voice-from : (at : ℕ) (t : List ℕ) → voiceFrom 0 (drop at t) ≡ voiceFrom at t

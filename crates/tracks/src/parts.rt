@@ -28,6 +28,10 @@ const FIRST_VOICE: usize = 12;
 
 const SECOND_VOICE: usize = 27;
 
+const BOARD_WORDS: usize = 11;
+
+const VOICE_WORDS: usize = 15;
+
 // A running dynamic starts at 6, forte.
 const FORTE: u8 = 6;
 
@@ -78,38 +82,55 @@ fn byte_at(parts: &[u32], track: usize, k: usize) -> u8
     kinds::byte_of(tables::load_field(parts, track, PART_WORDS, k))
 }
 
-fn flag_at(parts: &[u32], track: usize, k: usize) -> bool
-    ensures { λ r. ⌜ r ≡ flagOf (getD (now (parts .entry)) (track * partStride + k) 0) ⌝ }
+fn byte_in(w: &[u32], k: usize) -> u8
+    ensures { λ r. ⌜ r ≡ getD (now (w .entry)) k 0 % 256 ⌝ }
 {
-    kinds::flag_of(tables::load_field(parts, track, PART_WORDS, k))
+    kinds::byte_of(tables::load(w, k))
 }
 
-fn strings_at(parts: &[u32], track: usize) -> Strings
-    ensures { λ r. ⌜ r ≡ boardFrom (track * partStride) (now (parts .entry)) .strings ⌝ }
+fn flag_in(w: &[u32], k: usize) -> bool
+    ensures { λ r. ⌜ r ≡ flagOf (getD (now (w .entry)) k 0) ⌝ }
 {
-    let count = byte_at(parts, track, 0);
+    kinds::flag_of(tables::load(w, k))
+}
+
+fn strings_of(w: &[u32]) -> Strings
+    ensures { λ r. ⌜ r ≡ boardFrom 0 (now (w .entry)) .strings ⌝ }
+{
+    let count = byte_in(w, 0);
     let tunings = [
-        byte_at(parts, track, 1),
-        byte_at(parts, track, 2),
-        byte_at(parts, track, 3),
-        byte_at(parts, track, 4),
-        byte_at(parts, track, 5),
-        byte_at(parts, track, 6),
-        byte_at(parts, track, 7),
+        byte_in(w, 1),
+        byte_in(w, 2),
+        byte_in(w, 3),
+        byte_in(w, 4),
+        byte_in(w, 5),
+        byte_in(w, 6),
+        byte_in(w, 7),
     ];
     Strings { count, tunings }
 }
 
+fn board_of(w: &[u32]) -> Fretboard
+    ensures { λ r. ⌜ r ≡ boardFrom 0 (now (w .entry)) ⌝ }
+{
+    let strings = strings_of(w);
+    Fretboard {
+        strings,
+        capo: byte_in(w, 8),
+        percussion: flag_in(w, 9),
+        tablature: flag_in(w, 10),
+    }
+}
+
+// Of words that are all there the compiler drops the tests.
 pub fn board_at(parts: &[u32], track: usize) -> Fretboard
     ensures { λ r. ⌜ r ≡ boardFrom (track * partStride) (now (parts .entry)) ⌝ }
 {
-    let strings = strings_at(parts, track);
-    Fretboard {
-        strings,
-        capo: byte_at(parts, track, 8),
-        percussion: flag_at(parts, track, 9),
-        tablature: flag_at(parts, track, 10),
+    let w = words_from(parts, track, 0);
+    if BOARD_WORDS <= w.len() {
+        return board_of(&w[..BOARD_WORDS]);
     }
+    board_of(w)
 }
 
 fn board_words(x: Fretboard) -> [u32; 11]
@@ -253,7 +274,11 @@ fn voice_of(w: &[u32]) -> Voice
 pub fn voice_at(parts: &[u32], track: usize, voice: usize) -> Voice
     ensures { λ r. ⌜ r ≡ voiceFrom (track * partStride + voicePlace voice) (now (parts .entry)) ⌝ }
 {
-    voice_of(words_from(parts, track, voice_place(voice)))
+    let w = words_from(parts, track, voice_place(voice));
+    if VOICE_WORDS <= w.len() {
+        return voice_of(&w[..VOICE_WORDS]);
+    }
+    voice_of(w)
 }
 
 fn fret_words(x: [Remembered; 7]) -> [u32; 7]

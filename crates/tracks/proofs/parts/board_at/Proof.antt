@@ -1,16 +1,19 @@
--- Each part by its words. Assumes nothing.
-use Rattle.words.specs.Words.{boardFrom}
+-- By the words from its place on. Assumes nothing.
+use mathlib.Core.Path.{sym}
+use native.Mathlib.Nat.{add-zero}
+use lib.Seq.{length-take-le}
+use Rattle.tracks.proofs.Places.{board-from, board-taken}
 use borrow.Author.Needs.{needs}
 use Rattle.tracks.proofs.parts.board_at.Statement.{statement}
 use Rattle.tracks.proofs.parts.board_at.Tie as tie
 
 pub board-at-spec : {M : Type 1} → statement M
-unfolding boardFrom
 board-at-spec =
     tie.close
     (tie.spec
     (λ c κs. search needs)
+    (λ c. sym (length-take-le 11 (c .before .before .words-from .result .now) (c .before .if1 .taken)))
     (λ c κs. search needs)
+    (λ c. rw (c .board-of .ensures, board-taken, c .before .before .before .words-from .ensures, add-zero) (board-from _ _))
     (λ c κs. search needs)
-    (λ c κs. search needs)
-    (λ c. rw (c .flag-at2 .ensures, c .before .flag-at .ensures, c .before .before .byte-at .ensures, c .before .before .before .strings-at .ensures)))
+    (λ c. rw (c .board-of2 .ensures, c .before .before .words-from .ensures, add-zero) (board-from _ _)))

@@ -1,5 +1,7 @@
 -- By the words from its place on. Assumes nothing.
-use Rattle.tracks.proofs.Places.{voice-from}
+use mathlib.Core.Path.{sym}
+use lib.Seq.{length-take-le}
+use Rattle.tracks.proofs.Places.{voice-from, voice-taken}
 use borrow.Author.Needs.{needs}
 use Rattle.tracks.proofs.parts.voice_at.Statement.{statement}
 use Rattle.tracks.proofs.parts.voice_at.Tie as tie
@@ -10,5 +12,8 @@ voice-at-spec =
     (tie.spec
     (λ c κs. search needs)
     (λ c κs. search needs)
+    (λ c. sym (length-take-le 15 (c .before .before .words-from .result .now) (c .before .if1 .taken)))
     (λ c κs. search needs)
-    (λ c. rw (c .voice-of .ensures, c .before .words-from .ensures, c .before .before .voice-place .ensures) (voice-from _ _)))
+    (λ c. rw (c .voice-of .ensures, voice-taken, c .before .before .before .words-from .ensures, c .before .before .before .before .voice-place .ensures) (voice-from _ _))
+    (λ c κs. search needs)
+    (λ c. rw (c .voice-of2 .ensures, c .before .before .words-from .ensures, c .before .before .before .voice-place .ensures) (voice-from _ _)))
