@@ -1,5 +1,4 @@
 // The effects of a beat, and what of them is lost.
-ghost use mathlib.Core.Path.{_≡_};
 ghost use Prim.Native.Nat.{ℕ, _+_};
 ghost use Rattle.format.specs.Place.{Reaches};
 ghost use Rattle.format.specs.Padded.{Near};

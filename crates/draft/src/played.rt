@@ -4,7 +4,7 @@ ghost use mathlib.Core.List.{List};
 ghost use Prim.Native.Nat.{ℕ};
 ghost use Rattle.format.specs.Text.{pick};
 ghost use Rattle.note.specs.Points.{bendIn};
-ghost use Rattle.note.specs.Words.{start, noteIn, readIn, bendAt};
+ghost use Rattle.note.specs.Words.{start, noteIn, readIn};
 ghost use Rattle.score.specs.Rows as rule;
 ghost use Rattle.draft.specs.Steps.{playedIn, playedBy};
 use model::Technique;

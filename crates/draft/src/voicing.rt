@@ -39,7 +39,7 @@ pub(crate) fn head_with(dead: bool, before: NoteHead) -> NoteHead
     before
 }
 
-pub(crate) fn head_of(notes: &Notes, chord: &[u32]) -> NoteHead
+pub fn head_of(notes: &Notes, chord: &[u32]) -> NoteHead
     ensures { λ r. ⌜ ((s : List ℕ) (v : ℕ) → r ≡ rule.headOf (chordIn s v (now (notes .entry)) (now (chord .entry)))) ⌝ }
 {
     let mut i: usize = 0;

@@ -44,7 +44,7 @@ module _ {s w w₁ : List ℕ} {at k : ℕ} {given : Bool} where
 pad-skip-to : {s : List ℕ} {at next : ℕ} (n : ℕ) → at + n ≡ next → Padded (skip n) s at tt next
 pad-skip-to n e = rw (← e) (pad.pad-skip n)
 
-pad-byte-to : {s : List ℕ} {at next b : ℕ} → b ≡ getD s at 0 → at + 1 ≡ next → Padded u8 s at b next
+pub pad-byte-to : {s : List ℕ} {at next b : ℕ} → b ≡ getD s at 0 → at + 1 ≡ next → Padded u8 s at b next
 pad-byte-to h e = rw (← e) (pad.pad-byte h)
 
 -- ---- hands
@@ -176,7 +176,7 @@ unfolding bendBy
 bend-kept first o h x = rw (x .same (o + 9) (omega arith), x .same (o + 10) (omega arith))
 
 -- ---- all effects
-and-false : (b : Bool) → (b && false) ≡ false
+pub and-false : (b : Bool) → (b && false) ≡ false
 and-false true = refl
 and-false false = refl
 
@@ -184,7 +184,7 @@ pub no-marks : (v : ℕ) (w : List ℕ) (o : ℕ) → marksBy v 0 0 w o ≡ noMa
 unfolding marksBy marksOf graceIn tremoloIn slideIn slideFlag harmonicIn noMarks has
 no-marks v w o = rw (and-false (ltb v 400))
 
-no-bend : (s w : List ℕ) (o : ℕ) → bendIn s (bendBy 0 w o) ≡ []
+pub no-bend : (s w : List ℕ) (o : ℕ) → bendIn s (bendBy 0 w o) ≡ []
 unfolding bendBy has pointsAt
 no-bend s w o = refl
 
@@ -239,11 +239,11 @@ end-read {w₁ = w₁} {w₂} {w₃} v flags o h a e =
       below = kept-on (omega arith) (omega arith) (h .below) k₁;
     }
 
-dynamic-kept : {n : ℕ} {a b : List ℕ} (flags o : ℕ) → o + 3 ≤ n → Kept n a b → dynamicIn flags b o ≡ dynamicIn flags a o
+pub dynamic-kept : {n : ℕ} {a b : List ℕ} (flags o : ℕ) → o + 3 ≤ n → Kept n a b → dynamicIn flags b o ≡ dynamicIn flags a o
 unfolding dynamicIn
 dynamic-kept flags o h x = rw (byte-kept (o + 2) (omega arith) x)
 
-dynamic-read : {s : List ℕ} {at next : ℕ} (w : List ℕ) (flags o : ℕ) → Padded (optional (has flags 0x10) u8 0) s at (byteIn w (o + 2)) next → Padded (dynamic flags) s at (dynamicIn flags w o) next
+pub dynamic-read : {s : List ℕ} {at next : ℕ} (w : List ℕ) (flags o : ℕ) → Padded (optional (has flags 0x10) u8 0) s at (byteIn w (o + 2)) next → Padded (dynamic flags) s at (dynamicIn flags w o) next
 unfolding optional dynamic dynamicIn
 dynamic-read w flags o h = pad.pad-made flags 0x10 (λ b. Given b) Absent h
 

@@ -4,5 +4,6 @@ pub mod Stores
 pub mod Filled
 pub mod Plain
 pub mod Strings
+pub mod Straight
 pub mod Turns
 pub mod Over

@@ -8,7 +8,7 @@ pub mod bend; // the points of a bend, where they stand
 pub mod field; // what the words of a note say
 pub mod marks; // the effects of a note
 pub mod notes; // the notes of a beat
-pub mod optional; // optional fields
+pub mod optional; // bytes that may be absent
 pub mod places; // the words of notes
 
 use curve::level::NoteLevel;
