@@ -1,2 +1,5 @@
 mod Steps
 mod Heard
+mod Unmarked
+mod Bare
+mod Plainly

@@ -5,3 +5,4 @@ pub mod Drawing
 pub mod Gathering
 pub mod Gracing
 pub mod Rowing
+pub mod Straight

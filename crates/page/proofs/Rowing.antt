@@ -73,7 +73,7 @@ module _ (s : List ℕ) (kept : Kept) (voice : Voice) (rows members points : Lis
         )
 
   -- its members
-  members-kept : (row : RowIs)
+  pub members-kept : (row : RowIs)
       → keepRow (words s) row before .members
       ≡ stores memberWords memberStride (startTies (words []) (voice .last) (row .members) members) (kept .members)
       (fingered (row .members))

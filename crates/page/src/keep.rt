@@ -165,7 +165,7 @@ fn keep_own(
     keep_row(s, draft, company, kept, voice, rows, points)
 }
 
-fn size_of(count: usize) -> usize
+pub(crate) fn size_of(count: usize) -> usize
     ensures { λ r. ⌜ r ≡ min count 7 ⌝ }
 {
     if count <= 7 { count } else { 7 }

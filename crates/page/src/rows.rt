@@ -155,7 +155,7 @@ fn text_left(text: TechniqueText) -> TechniqueText
     text
 }
 
-fn dynamic_at(level: Level) -> Dynamic
+pub(crate) fn dynamic_at(level: Level) -> Dynamic
     ensures { λ r. ⌜ r ≡ dynamicAt level ⌝ }
 {
     match level {
