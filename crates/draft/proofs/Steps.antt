@@ -14,8 +14,8 @@ use Rattle.model.specs.declared.NoteHead.the-variants.{Normal, Cross}
 use Rattle.model.specs.declared.Technique.the-variants.{NoTechnique}
 use Rattle.model.specs.declared.TechniqueText.{TechniqueText}
 use Rattle.model.specs.declared.TechniqueText.the-variants.{NoText, HammerMark}
-use Rattle.model.specs.Marks.{addOnce, packed, noMarks, addMark}
-use Rattle.model.specs.MarksLaws.{Distinct, distinct-nil, distinct-add, add-packed}
+use Rattle.model.specs.Marks.{addOnce, packed, byteCounted, noMarks, addMark}
+use Rattle.model.specs.MarksLaws.{Distinct, distinct-nil, distinct-add, add-packed, byte-counted}
 use Rattle.curve.specs.declared.level.ChordLevel.{ChordLevel}
 use Rattle.curve.specs.declared.level.NoteLevel.{NoteLevel}
 use Rattle.curve.specs.Level.{chordOf, chordWith}
@@ -24,6 +24,7 @@ use Rattle.note.specs.declared.bend.Bend.{Bend}
 use Rattle.beat.specs.declared.effects.BeatEffects.{BeatEffects}
 use Rattle.note.specs.Points.{pointsAt, bendIn}
 use Rattle.note.specs.Note.{NoteIs}
+use Rattle.score.specs.Facts.{marks-few}
 use Rattle.score.specs.Members.{Keyed, Graced}
 use Rattle.score.specs.Rows.{Played, bent, withText, withBend, withHammer, withSlide}
 use Rattle.score.specs.Rows.{noteOf, beatMarks, addAll, marksOfNotes, marksOf, levels}
@@ -64,6 +65,9 @@ pub marks-packed : (e : BeatEffects) (xs : List Keyed)
     → addMarks noMarks (marksOfNotes e xs ++ beatMarks e) ≡ packed (marksOf e xs)
 unfolding marksOf
 marks-packed e xs = add-all (marksOfNotes e xs ++ beatMarks e) [] distinct-nil
+
+pub marks-counted : (e : BeatEffects) (xs : List Keyed) → byteCounted (packed (marksOf e xs)) ≡ packed (marksOf e xs)
+marks-counted e xs = byte-counted (marksOf e xs) (marks-few e xs)
 
 -- ---- the dynamic
 

@@ -1,6 +1,7 @@
 // Articulations, in the order in which they are added (RULES.md 21).
 ghost use mathlib.Core.Path.{_≡_};
 ghost use Prim.Native.Nat.{ℕ};
+ghost use Rattle.model.specs.Marks.{addedIn};
 ghost use Rattle.note.specs.Words.{readIn};
 ghost use Rattle.beat.specs.Words.{effectsIn};
 ghost use Rattle.score.specs.Rows as rule;
@@ -8,14 +9,14 @@ ghost use Rattle.draft.specs.Steps.{addMarks};
 use beat::effects::PickStroke;
 use beat::places::Beat;
 use model::Articulation;
-use model::Articulations;
+use model::marks::Marks;
 use model::marks::added;
 use note::field;
 use note::marks::Tremolo;
 use note::places::Notes;
 
-fn added_if(m: Articulations, given: bool, a: Articulation) -> Articulations
-    ensures { λ r. ⌜ r ≡ addMarks m (rule.only given a) ⌝ }
+fn added_if(m: Marks, given: bool, a: Articulation) -> Marks
+    ensures { λ r. ⌜ addedIn r ≡ addMarks (addedIn m) (rule.only given a) ⌝ }
 {
     if given {
         return added(m, a);
@@ -23,8 +24,8 @@ fn added_if(m: Articulations, given: bool, a: Articulation) -> Articulations
     m
 }
 
-fn with_accent(m: Articulations, notes: &Notes, string: usize) -> Articulations
-    ensures { λ r. ⌜ ((v : ℕ) → r ≡ addMarks m (rule.accents (readIn v (now (notes .entry)) string))) ⌝ }
+fn with_accent(m: Marks, notes: &Notes, string: usize) -> Marks
+    ensures { λ r. ⌜ ((v : ℕ) → addedIn r ≡ addMarks (addedIn m) (rule.accents (readIn v (now (notes .entry)) string))) ⌝ }
 {
     if field::heavy_accent(notes, string) {
         return added(m, Articulation::Marcato);
@@ -44,8 +45,8 @@ fn strokes(n: u8) -> Articulation
     Articulation::Tremolo3
 }
 
-fn with_tremolo(m: Articulations, tremolo: Tremolo) -> Articulations
-    ensures { λ r. ⌜ r ≡ addMarks m (rule.tremolos tremolo) ⌝ }
+fn with_tremolo(m: Marks, tremolo: Tremolo) -> Marks
+    ensures { λ r. ⌜ addedIn r ≡ addMarks (addedIn m) (rule.tremolos tremolo) ⌝ }
 {
     let Tremolo::Strokes(n) = tremolo else {
         return m;
@@ -53,8 +54,8 @@ fn with_tremolo(m: Articulations, tremolo: Tremolo) -> Articulations
     added(m, strokes(n))
 }
 
-fn with_slide(m: Articulations, notes: &Notes, string: usize, v: u32) -> Articulations
-    ensures { λ r. ⌜ r ≡ addMarks m (rule.slides (readIn v (now (notes .entry)) string .effects .slide)) ⌝ }
+fn with_slide(m: Marks, notes: &Notes, string: usize, v: u32) -> Marks
+    ensures { λ r. ⌜ addedIn r ≡ addMarks (addedIn m) (rule.slides (readIn v (now (notes .entry)) string .effects .slide)) ⌝ }
 {
     let slide = field::slide(notes, string, v);
     let m = added_if(m, slide.falloff, Articulation::Falloff);
@@ -70,14 +71,8 @@ fn harmonic(b: &Beat, notes: &Notes, string: usize, v: u32) -> bool
         | (beat::field::natural_harmonic(b, v) | beat::field::artificial_harmonic(b, v))
 }
 
-pub(crate) fn with_note(
-    m: Articulations,
-    b: &Beat,
-    notes: &Notes,
-    string: usize,
-    v: u32,
-) -> Articulations
-    ensures { λ r. ⌜ r ≡ addMarks m (rule.noteMarks (effectsIn v (now (b .entry))) (readIn v (now (notes .entry)) string)) ⌝ }
+pub(crate) fn with_note(m: Marks, b: &Beat, notes: &Notes, string: usize, v: u32) -> Marks
+    ensures { λ r. ⌜ addedIn r ≡ addMarks (addedIn m) (rule.noteMarks (effectsIn v (now (b .entry))) (readIn v (now (notes .entry)) string)) ⌝ }
 {
     let tremolo = field::tremolo(notes, string);
     let m = with_accent(m, notes, string);
@@ -89,8 +84,8 @@ pub(crate) fn with_note(
     with_tremolo(m, tremolo)
 }
 
-fn with_bow(m: Articulations, stroke: PickStroke) -> Articulations
-    ensures { λ r. ⌜ r ≡ addMarks m (rule.bows stroke) ⌝ }
+fn with_bow(m: Marks, stroke: PickStroke) -> Marks
+    ensures { λ r. ⌜ addedIn r ≡ addMarks (addedIn m) (rule.bows stroke) ⌝ }
 {
     match stroke {
         PickStroke::NoStroke => m,
@@ -99,8 +94,8 @@ fn with_bow(m: Articulations, stroke: PickStroke) -> Articulations
     }
 }
 
-pub(crate) fn with_beat(m: Articulations, b: &Beat, v: u32) -> Articulations
-    ensures { λ r. ⌜ r ≡ addMarks m (rule.beatMarks (effectsIn v (now (b .entry)))) ⌝ }
+pub(crate) fn with_beat(m: Marks, b: &Beat, v: u32) -> Marks
+    ensures { λ r. ⌜ addedIn r ≡ addMarks (addedIn m) (rule.beatMarks (effectsIn v (now (b .entry)))) ⌝ }
 {
     let stroke = beat::field::pick(b);
     let m = with_bow(m, stroke);

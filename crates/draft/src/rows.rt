@@ -32,7 +32,8 @@ use model::RowKind;
 use model::Technique;
 use model::TechniqueText;
 use model::Tuplet;
-use model::marks::none_added;
+use model::marks::NO_ARTICULATIONS;
+use model::marks::listed;
 use note::places::Notes;
 
 // The dynamic of a row, and the running one after it.
@@ -69,7 +70,7 @@ fn rest_row(place: Place, b: &Beat) -> Draft
         technique: Technique::NoTechnique,
         bend: NO_BEND,
         dynamic: Level::Absent,
-        articulations: none_added(),
+        articulations: NO_ARTICULATIONS,
         arpeggio: Arpeggio::NoArpeggio,
         head: NoteHead::Normal,
         ottava,
@@ -90,7 +91,7 @@ fn chord_row(place: Place, running: u8, b: &Beat, notes: &Notes, chord: &[u32], 
     let bend = played.bend;
     let after = level_of(running, notes, chord);
     let dynamic = after.mark;
-    let articulations = voiced.marks;
+    let marks = voiced.marks;
     let arpeggio = beat::field::brush(b, v);
     let head = head_of(notes, chord);
     let ottava = beat::field::ottava(b);
@@ -104,7 +105,7 @@ fn chord_row(place: Place, running: u8, b: &Beat, notes: &Notes, chord: &[u32], 
         technique,
         bend,
         dynamic,
-        articulations,
+        articulations: listed(marks),
         arpeggio,
         head,
         ottava,
@@ -145,7 +146,7 @@ pub fn grace_row(place: Place, x: Graces) -> Draft
         technique,
         bend: NO_BEND,
         dynamic: Level::Absent,
-        articulations: none_added(),
+        articulations: NO_ARTICULATIONS,
         arpeggio: Arpeggio::NoArpeggio,
         head,
         ottava: Ottava::NoOttava,

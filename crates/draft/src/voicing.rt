@@ -4,7 +4,7 @@ ghost use mathlib.Core.Bool.{false};
 ghost use mathlib.Core.List.{List};
 ghost use Prim.Native.Nat.{ℕ};
 ghost use Rattle.format.specs.Text.{pick};
-ghost use Rattle.model.specs.Marks.{packed};
+ghost use Rattle.model.specs.Marks.{addedIn, packed};
 ghost use Rattle.curve.specs.Level.{chordOf};
 ghost use Rattle.beat.specs.Words.{effectsIn};
 ghost use Rattle.score.specs.Rows as rule;
@@ -18,15 +18,15 @@ use crate::played::Played;
 use crate::played::played_by;
 use beat::places::Beat;
 use curve::level::ChordLevel;
-use model::Articulations;
 use model::NoteHead;
+use model::marks::Marks;
 use model::marks::none_added;
 use note::field;
 use note::places::Notes;
 
 pub(crate) struct Voiced {
     pub played: Played,
-    pub marks: Articulations,
+    pub marks: Marks,
 }
 
 // One dead note gives the X head.
@@ -69,7 +69,7 @@ pub(crate) fn levels_of(notes: &Notes, chord: &[u32]) -> ChordLevel
 fn voiced_by(b: &Beat, notes: &Notes, chord: &[u32], v: u32) -> Voiced
     ensures played { λ r. ⌜ ((s : List ℕ) → playedIn s (r .played)
         ≡ rule.played rule.noPlay (chordIn s v (now (notes .entry)) (now (chord .entry)))) ⌝ }
-    ensures marks { λ r. ⌜ ((s : List ℕ) → addMarks (r .marks) (rule.beatMarks (effectsIn v (now (b .entry))))
+    ensures marks { λ r. ⌜ ((s : List ℕ) → addMarks (addedIn (r .marks)) (rule.beatMarks (effectsIn v (now (b .entry))))
         ≡ packed (rule.marksOf (effectsIn v (now (b .entry))) (chordIn s v (now (notes .entry)) (now (chord .entry))))) ⌝ }
 {
     let mut played = NO_PLAY;
@@ -102,7 +102,7 @@ fn any_voiced(notes: &Notes, chord: &[u32]) -> bool
 fn voiced_if(b: &Beat, notes: &Notes, chord: &[u32], v: u32) -> Voiced
     ensures played { λ r. ⌜ ((s : List ℕ) → playedIn s (r .played)
         ≡ rule.played rule.noPlay (chordIn s v (now (notes .entry)) (now (chord .entry)))) ⌝ }
-    ensures marks { λ r. ⌜ ((s : List ℕ) → addMarks (r .marks) (rule.beatMarks (effectsIn v (now (b .entry))))
+    ensures marks { λ r. ⌜ ((s : List ℕ) → addMarks (addedIn (r .marks)) (rule.beatMarks (effectsIn v (now (b .entry))))
         ≡ packed (rule.marksOf (effectsIn v (now (b .entry))) (chordIn s v (now (notes .entry)) (now (chord .entry))))) ⌝ }
 {
     let natural = beat::field::natural_harmonic(b, v);
@@ -119,7 +119,7 @@ fn voiced_if(b: &Beat, notes: &Notes, chord: &[u32], v: u32) -> Voiced
 pub(crate) fn voicing_of(b: &Beat, notes: &Notes, chord: &[u32], v: u32) -> Voiced
     ensures played { λ r. ⌜ ((s : List ℕ) → playedIn s (r .played)
         ≡ rule.played rule.noPlay (chordIn s v (now (notes .entry)) (now (chord .entry)))) ⌝ }
-    ensures marks { λ r. ⌜ ((s : List ℕ) → r .marks
+    ensures marks { λ r. ⌜ ((s : List ℕ) → addedIn (r .marks)
         ≡ packed (rule.marksOf (effectsIn v (now (b .entry))) (chordIn s v (now (notes .entry)) (now (chord .entry))))) ⌝ }
 {
     let voiced = voiced_if(b, notes, chord, v);

@@ -9,6 +9,7 @@ use Rattle.model.specs.Kinds.{articulationWord, articulationOf}
 use Rattle.model.specs.declared.Articulation.{Articulation}
 use Rattle.model.specs.declared.Articulations.{Articulations}
 use Rattle.model.specs.declared.MarkAt.{MarkAt}
+use Rattle.model.specs.declared.marks.Marks.{Marks}
 use Rattle.model.specs.declared.MarkAt.the-variants.{ThisMark, NoMark}
 
 -- whether the articulation of a digit is among them
@@ -27,6 +28,14 @@ hex (a ∷ l) d = hex l (d * 16 + articulationWord a)
 
 abbrev pub packed : List Articulation → Articulations
 packed l = record { count = length l; digits = hex l 0 }
+
+-- those added so far
+unfoldable pub addedIn : Marks → Articulations
+addedIn m = record { count = m .count; digits = m .digits }
+
+-- with a byte for their count
+unfoldable pub byteCounted : Articulations → Articulations
+byteCounted m = record { count = m .count % 256; digits = m .digits }
 
 -- ---- the same on any number
 

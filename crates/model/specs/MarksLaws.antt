@@ -15,7 +15,7 @@ use Rattle.model.specs.declared.Articulation.the-variants.{Marcato, Acce
 use Rattle.model.specs.declared.MarkAt.the-variants.{ThisMark, NoMark}
 use Rattle.model.specs.Kinds.{articulationWord}
 use Rattle.model.specs.KindLaws.{articulation-back}
-use Rattle.model.specs.Marks.{holds, addOnce, hex, packed, hasDigit, withDigit, addMark, shifted, markAt}
+use Rattle.model.specs.Marks.{holds, addOnce, hex, packed, byteCounted, hasDigit, withDigit, addMark, shifted, markAt}
 
 digit-lt : (a : Articulation) → articulationWord a < 16
 digit-lt Marcato = omega arith
@@ -199,3 +199,8 @@ add-packed a l s = rw (has-is (articulationWord a) l) (go (holds (articulationWo
     go : (b : Bool) → holds (articulationWord a) l ≡ b → pick b (packed l) (withDigit (articulationWord a) (packed l)) ≡ packed (pick b l (l ++ (a ∷ [])))
     go true e = refl
     go false e = with-packed l a (omega (arith, s .spare, free-in 16 a l (digit-lt a) e))
+
+-- a byte counts them
+pub byte-counted : (l : List Articulation) → length l < 256 → byteCounted (packed l) ≡ packed l
+unfolding byteCounted
+byte-counted l h = rw (mod-eq-of-lt h)

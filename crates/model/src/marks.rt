@@ -6,19 +6,30 @@ use crate::kinds;
 ghost use mathlib.Core.Path.{_≡_};
 ghost use Prim.Native.Nat.{_-_, _/_, _%_};
 ghost use Rattle.model.specs.Kinds.{articulationWord, articulationOf};
-ghost use Rattle.model.specs.Marks.{noMarks, hasDigit, withDigit, addMark, shifted, markAt};
+ghost use Rattle.model.specs.Marks.{addedIn, byteCounted, noMarks, hasDigit, withDigit, addMark, shifted, markAt};
 
-pub fn none_added() -> Articulations
-    ensures { λ r. ⌜ r ≡ noMarks ⌝ }
+// Articulations while they are added. Two whole words: a struct with padding is copied in pieces (docs/PROVING.md, Speed).
+pub struct Marks {
+    pub count: u64,
+    pub digits: u64,
+}
+
+pub const NO_ARTICULATIONS: Articulations = Articulations {
+    count: 0,
+    digits: 0,
+};
+
+pub fn none_added() -> Marks
+    ensures { λ r. ⌜ addedIn r ≡ noMarks ⌝ }
 {
-    Articulations {
+    Marks {
         count: 0,
         digits: 0,
     }
 }
 
 // Whether a digit is among the last `count`.
-fn has_digit(count: u8, digits: u64, digit: u64) -> bool
+fn has_digit(count: u64, digits: u64, digit: u64) -> bool
     ensures { λ r. ⌜ r ≡ hasDigit digit count digits ⌝ }
 {
     let mut n = count;
@@ -40,27 +51,37 @@ fn digit_of(a: Articulation) -> u64
 }
 
 // One more digit; sixteen stay as they are.
-fn with_digit(m: Articulations, digit: u64) -> Articulations
-    ensures { λ r. ⌜ r ≡ withDigit digit m ⌝ }
+fn with_digit(m: Marks, digit: u64) -> Marks
+    ensures { λ r. ⌜ addedIn r ≡ withDigit digit (addedIn m) ⌝ }
 {
     if 16 <= m.count {
         return m;
     }
-    Articulations {
+    Marks {
         count: m.count + 1,
         digits: m.digits % 1152921504606846976 * 16 + digit % 16,
     }
 }
 
 // With one more, unless it is there.
-pub fn added(m: Articulations, a: Articulation) -> Articulations
-    ensures { λ r. ⌜ r ≡ addMark a m ⌝ }
+pub fn added(m: Marks, a: Articulation) -> Marks
+    ensures { λ r. ⌜ addedIn r ≡ addMark a (addedIn m) ⌝ }
 {
     let digit = digit_of(a);
     if has_digit(m.count, m.digits, digit) {
         return m;
     }
     with_digit(m, digit)
+}
+
+// As a row holds them: there are sixteen at most, so that a byte counts them.
+pub fn listed(m: Marks) -> Articulations
+    ensures { λ r. ⌜ r ≡ byteCounted (addedIn m) ⌝ }
+{
+    Articulations {
+        count: (m.count % 256) as u8,
+        digits: m.digits,
+    }
 }
 
 // A number without its last `n` digits.

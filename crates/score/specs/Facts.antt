@@ -2,7 +2,7 @@
 use Prim.Native.Nat.{ℕ, zero, suc, _+_, _*_, _-_, _≤_, _<_, min, max}
 use native.Mathlib.Omega.{arith}
 use mathlib.Core.Path.{_≡_, refl, _∙_}
-use mathlib.Core.List.{List, [], _∷_}
+use mathlib.Core.List.{List, [], _∷_, _++_}
 use mathlib.Core.Bool.{Bool, true, false, cond, _||_}
 use lib.ListN.{length, getD, set, replicate, length-set}
 use lib.Dec.{leb, ltb, eqb}
@@ -22,10 +22,13 @@ use Rattle.format.proofs.Yields.{yield-any, yield-ret, yield-refuse, yield-less
 use Rattle.format.proofs.Yields.{yielding, yield-le, yield-eq, yield-bits}
 use Rattle.format.proofs.Yields.{yield-u8, yield-byte, yield-skip, yield-number, yield-count}
 use Rattle.format.proofs.Yields.{yield-noText, yield-fixedString, yield-intByteStringUnused, yield-intByteString}
+use Rattle.model.specs.declared.Articulation.{Articulation}
 use Rattle.model.specs.declared.Tempo.the-variants.{NoTempo, Bpm}
 use Rattle.model.specs.declared.Time.{Time}
 use Rattle.model.specs.Kinds.{tempoFrom}
 use Rattle.model.specs.Fits.{KeyFits, TempoFits}
+use Rattle.model.specs.Marks.{addOnce}
+use Rattle.model.specs.MarksLaws.{Distinct, distinct-nil, distinct-few, distinct-add}
 use Rattle.curve.specs.Held.{held, byteHalf, wordHalf}
 use Rattle.curve.specs.declared.level.Level.{Level}
 use Rattle.curve.specs.declared.level.Level.the-variants.{Absent, Given}
@@ -38,6 +41,7 @@ use Rattle.track.specs.Track as T
 use Rattle.note.specs.declared.marks.GraceNote.{GraceNote}
 use Rattle.note.specs.declared.marks.GraceNote.the-variants.{NoGrace, Before}
 use Rattle.note.specs.Points.{BendPoint, bendPoint, bendPoints, bend}
+use Rattle.beat.specs.declared.effects.BeatEffects.{BeatEffects}
 use Rattle.beat.specs.Chord.{diagram, oldChord, earlyChord, chord, chordName, beatText}
 use Rattle.beat.specs.Mix.{noMix, mixEnd, mixTempo, mixTable, mix}
 use Rattle.note.specs.Marks.{noteBend, graceOf, graceNote, grace, noMarks, marksOf, marks, noNoteEffects, noteEffects}
@@ -45,6 +49,8 @@ use Rattle.note.specs.Note.{NoteIs, readOf, noteEnd, noteBy, note, noNote}
 use Rattle.note.specs.Notes.{stringBit, noNotes, notes}
 use Rattle.beat.specs.Head.{head}
 use Rattle.beat.specs.Beat.{BeatIs, beatNotes, beatBy, beat}
+use Rattle.score.specs.Members.{Keyed}
+use Rattle.score.specs.Rows.{marksOfNotes, beatMarks, addAll, marksOf as rowMarks}
 use Rattle.score.specs.Page.{bendRoom, bendRooms}
 
 -- ---- the facts: of what begins at a position of the file s and ends at n
@@ -459,3 +465,15 @@ counts-facts s at =
     yield-eq _ _ (λ _. yield-refuse) (λ i.
     yield-eq _ _ (λ _. yield-refuse) (λ j.
     yield-ret (record { bars = omega arith; tracks = omega arith })))))
+
+-- ---- articulations of a row: none twice, so at most sixteen
+
+add-distinct : (done more : List Articulation) → Distinct done → Distinct (addAll done more)
+add-distinct done [] f = f
+add-distinct done (a ∷ more) f = add-distinct (addOnce a done) more (distinct-add a done f)
+
+pub marks-few : (e : BeatEffects) (xs : List Keyed) → length (rowMarks e xs) < 256
+unfolding rowMarks
+marks-few e xs =
+    let marks = marksOfNotes e xs ++ beatMarks e in
+    omega (arith, distinct-few (addAll [] marks) (add-distinct [] marks distinct-nil))

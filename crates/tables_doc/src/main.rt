@@ -111,16 +111,12 @@ fn a_track() -> Track {
 }
 
 fn an_expression() -> Expression {
-    let articulations = marks::added(
-        marks::added(
-            marks::added(marks::none_added(), Articulation::Accent),
-            Articulation::Staccato,
-        ),
-        Articulation::Trill,
-    );
+    let m = marks::added(marks::none_added(), Articulation::Accent);
+    let m = marks::added(m, Articulation::Staccato);
+    let m = marks::added(m, Articulation::Trill);
     Expression {
         dynamic: Dynamic::Mf,
-        articulations,
+        articulations: marks::listed(m),
         arpeggio: Arpeggio::Down,
         head: NoteHead::Cross,
     }

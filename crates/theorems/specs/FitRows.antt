@@ -2,10 +2,8 @@
 use Prim.Native.Nat.{ℕ, _-_, _≤_, _<_}
 use native.Mathlib.Omega.{arith}
 use mathlib.Core.Bool.{Bool, _&&_}
-use mathlib.Core.List.{List, [], _∷_, _++_, map}
-use lib.ListN.{length}
+use mathlib.Core.List.{List, [], _∷_, map}
 use Rattle.format.specs.Text.{pick}
-use Rattle.model.specs.declared.Articulation.{Articulation}
 use Rattle.model.specs.declared.Member.{Member}
 use Rattle.model.specs.declared.OttavaMarks.{OttavaMarks}
 use Rattle.model.specs.declared.Place.{Place}
@@ -13,10 +11,7 @@ use Rattle.model.specs.declared.Row.{Row}
 use Rattle.model.specs.declared.Span.{Span}
 use Rattle.model.specs.declared.TabPosition.the-variants.{OffTablature, Fretted}
 use Rattle.model.specs.Fits.{TupletFits, PositionFits}
-use Rattle.model.specs.Marks.{addOnce}
-use Rattle.model.specs.MarksLaws.{Distinct, distinct-nil, distinct-few, distinct-add}
 use Rattle.entries.specs.Fits.{RangeFits, RowFits, MemberFits, PointFits}
-use Rattle.beat.specs.declared.effects.BeatEffects.{BeatEffects}
 use Rattle.note.specs.declared.marks.GraceNote.{GraceNote}
 use Rattle.note.specs.declared.marks.GraceNote.the-variants.{NoGrace, Before}
 use Rattle.beat.specs.Beat.{BeatIs}
@@ -26,9 +21,9 @@ use Rattle.score.specs.declared.Hammer.the-variants.{NoHammer, Waits}
 use Rattle.score.specs.declared.Kept.{Kept}
 use Rattle.score.specs.declared.OttavaRun.{OttavaRun}
 use Rattle.score.specs.declared.OttavaRun.the-variants.{NoRun, Over}
-use Rattle.score.specs.Facts.{GraceFits}
+use Rattle.score.specs.Facts.{GraceFits, marks-few}
 use Rattle.score.specs.Members.{Keyed, positionOf, memberOf, Graced, gracedAfter, graces, graceMember}
-use Rattle.score.specs.Rows.{RowIs, marksOfNotes, beatMarks, addAll, marksOf, played, noPlay, restRow, chordRow}
+use Rattle.score.specs.Rows.{RowIs, played, noPlay, restRow, chordRow}
 use Rattle.score.specs.Rows.{graceRow, graceRows, beatRow, rowsOf}
 use Rattle.score.specs.Page as Page
 use Rattle.score.specs.Page.{Rowing, fingered, marked, rowEntry, pulls, firstKey, hammerAfter, under, sameKind}
@@ -47,18 +42,6 @@ pub record RowHeld (r : RowIs) : Type 0 where
   pub curve : All PointFits (r .curve)
   pub count : r .articulations .count < 256
   pub chord : RangeFits (r .chord)
-
--- ---- articulations: none twice, so at most sixteen
-
-add-distinct : (done more : List Articulation) → Distinct done → Distinct (addAll done more)
-add-distinct done [] f = f
-add-distinct done (a ∷ more) f = add-distinct (addOnce a done) more (distinct-add a done f)
-
-marks-few : (e : BeatEffects) (xs : List Keyed) → length (marksOf e xs) < 256
-unfolding marksOf
-marks-few e xs =
-    let marks = marksOfNotes e xs ++ beatMarks e in
-    omega (arith, distinct-few (addAll [] marks) (add-distinct [] marks distinct-nil))
 
 -- ---- members
 

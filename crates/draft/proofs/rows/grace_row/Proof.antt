@@ -9,5 +9,4 @@ unfolding graceDraft
 grace-row-spec =
     tie.close
     (tie.spec
-    (λ c κs. search needs)
-    (λ c. rw (c .none-added .ensures)))
+    (λ c. search needs))

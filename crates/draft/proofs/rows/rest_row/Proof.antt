@@ -14,5 +14,4 @@ rest-row-spec =
     (λ c κs. search needs)
     (λ c κs. search needs)
     (λ c κs. search needs)
-    (λ c κs. search needs)
-    (λ c s v w. rw (c .none-added .ensures, c .before .value-of .ensures s v w, c .before .before .chord .ensures, c .before .before .before .ottava .ensures)))
+    (λ c s v w. rw (c .value-of .ensures s v w, c .before .chord .ensures, c .before .before .ottava .ensures)))

@@ -6,7 +6,7 @@ use mathlib.Core.List.{List, _++_}
 use mathlib.Core.Path.{_≡_, _∙_}
 use lib.ListN.{length, drop, drop-of-length-le}
 use Rattle.draft.specs.Chord.{chordIn}
-use Rattle.model.specs.Marks.{packed}
+use Rattle.model.specs.Marks.{addedIn, packed}
 use Rattle.beat.specs.Words.{effectsIn}
 use Rattle.note.specs.Points.{pointsAt}
 use Rattle.score.specs.Rows as rule
@@ -20,7 +20,7 @@ abbrev Inv-loop : tie.InvT-loop
 Inv-loop b notes chord v played₀ m₀ i₀ played m i =
     (i ≤ length chord)
     × ((s : List ℕ) → rule.played (playedIn s played) (chordIn s v notes (drop i chord)) ≡ rule.played rule.noPlay (chordIn s v notes chord))
-    × ((s : List ℕ) → addMarks m (rule.marksOfNotes (effectsIn v b) (chordIn s v notes (drop i chord)) ++ rule.beatMarks (effectsIn v b))
+    × ((s : List ℕ) → addMarks (addedIn m) (rule.marksOfNotes (effectsIn v b) (chordIn s v notes (drop i chord)) ++ rule.beatMarks (effectsIn v b))
     ≡ packed (rule.marksOf (effectsIn v b) (chordIn s v notes chord)))
 
 abbrev μ-loop : tie.MeasureT-loop
@@ -55,7 +55,7 @@ voiced-by-spec =
       λ s. next-played s (a .v) (a .notes .now) (a .chord .now) (l .i) (omega arith) (c .before .before .string-of .ensures .0) (playedIn s (l .played))
           (c .before .played-by .ensures s) ∙ l .inv .1 s,
       λ s. next-marks s (a .v) (a .notes .now) (a .chord .now) (l .i) (omega arith) (c .before .before .string-of .ensures .0) (effectsIn (a .v) (a .b .now))
-          (l .m) (c .with-note .ensures) ∙ l .inv .2 s,
+          (addedIn (l .m)) (c .with-note .ensures) ∙ l .inv .2 s,
     ))
     (λ c.
     let l = c .before .loop in

@@ -1,11 +1,11 @@
 use mathlib.Core.Path.{_∙_}
-use Rattle.model.specs.Marks.{addMark}
+use Rattle.model.specs.Marks.{addedIn, addMark}
 use borrow.Author.Needs.{needs}
 use Rattle.model.proofs.marks.added.Statement.{statement}
 use Rattle.model.proofs.marks.added.Tie as tie
 
 pub added-spec : {M : Type 1} → statement M
-unfolding addMark
+unfolding addedIn addMark
 added-spec =
     tie.close
     (tie.spec

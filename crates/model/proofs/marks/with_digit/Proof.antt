@@ -1,11 +1,11 @@
 use borrow.Author.Tests.{lt-ltb, le-ltb}
-use Rattle.model.specs.Marks.{withDigit}
+use Rattle.model.specs.Marks.{addedIn, withDigit}
 use borrow.Author.Needs.{needs}
 use Rattle.model.proofs.marks.with_digit.Statement.{statement}
 use Rattle.model.proofs.marks.with_digit.Tie as tie
 
 pub with-digit-spec : {M : Type 1} → statement M
-unfolding withDigit
+unfolding addedIn withDigit
 with-digit-spec =
     tie.close
     (tie.spec
