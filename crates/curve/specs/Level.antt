@@ -44,10 +44,6 @@ allEmphasised (m ∷ ms) = m .emphasised && allEmphasised ms
 unfoldable pub chordOf : List NoteLevel → ChordLevel
 chordOf ms = record { emphasised = allEmphasised ms; given = lastGiven ms }
 
--- a chord with one member more, at the end (`chord-more` in Laws)
-unfoldable pub chordWith : ChordLevel → NoteLevel → ChordLevel
-chordWith chord note = record { emphasised = chord .emphasised && note .emphasised; given = later (chord .given) (note .given) }
-
 abbrev pub levelOr : Level → ℕ → ℕ
 levelOr Absent n = n
 levelOr (Given level) n = level

@@ -1,10 +1,8 @@
 // The dynamic of a chord, and the running dynamic of a track: levels from 1 (ppp) to 8 (fff).
 use crate::held::dynamic_of;
-use crate::truth::both;
 use crate::truth::either;
 ghost use mathlib.Core.Path.{_≡_};
-ghost use mathlib.Core.List.{[]};
-ghost use Rattle.curve.specs.Level.{heldLevel, noteLevel, chordOf, chordWith, chordLevel, levelAfter};
+ghost use Rattle.curve.specs.Level.{heldLevel, noteLevel, chordLevel, levelAfter};
 
 // A dynamic that a note stores, a note or chord gives, or a row is marked with.
 pub enum Level {
@@ -18,7 +16,7 @@ pub struct NoteLevel {
     pub given: Level,
 }
 
-// What the members of a chord, so far, say about it: whether all are emphasised, and what the last that gives one gives.
+// What the members of a chord say about it: whether all are emphasised, and what the last that gives one gives.
 pub struct ChordLevel {
     pub emphasised: bool,
     pub given: Level,
@@ -58,35 +56,6 @@ pub fn note_level(ghost_note: bool, accent: bool, heavy: bool, stored: Level) ->
             emphasised,
             given: held_level(stored),
         }
-    }
-}
-
-// A chord with no member yet.
-pub fn no_chord() -> ChordLevel
-    ensures { λ r. ⌜ r ≡ chordOf [] ⌝ }
-{
-    ChordLevel {
-        emphasised: true,
-        given: Level::Absent,
-    }
-}
-
-// The chord with one member more, after the others in order.
-pub fn chord_with(chord: ChordLevel, note: NoteLevel) -> ChordLevel
-    ensures { λ r. ⌜ r ≡ chordWith chord note ⌝ }
-{
-    let before = chord.given;
-    let given = note.given;
-    let all = both(chord.emphasised, note.emphasised);
-    match given {
-        Level::Given(level) => ChordLevel {
-            emphasised: all,
-            given: Level::Given(level),
-        },
-        Level::Absent => ChordLevel {
-            emphasised: all,
-            given: before,
-        },
     }
 }
 

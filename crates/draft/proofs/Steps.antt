@@ -16,10 +16,6 @@ use Rattle.model.specs.declared.TechniqueText.{TechniqueText}
 use Rattle.model.specs.declared.TechniqueText.the-variants.{NoText, HammerMark}
 use Rattle.model.specs.Marks.{addOnce, packed, byteCounted, noMarks, addMark}
 use Rattle.model.specs.MarksLaws.{Distinct, distinct-nil, distinct-add, add-packed, byte-counted}
-use Rattle.curve.specs.declared.level.ChordLevel.{ChordLevel}
-use Rattle.curve.specs.declared.level.NoteLevel.{NoteLevel}
-use Rattle.curve.specs.Level.{chordOf, chordWith}
-use Rattle.curve.specs.Laws.{chord-more}
 use Rattle.note.specs.declared.bend.Bend.{Bend}
 use Rattle.beat.specs.declared.effects.BeatEffects.{BeatEffects}
 use Rattle.note.specs.Points.{pointsAt, bendIn}
@@ -27,7 +23,7 @@ use Rattle.note.specs.Note.{NoteIs}
 use Rattle.score.specs.Facts.{marks-few}
 use Rattle.score.specs.Members.{Keyed, Graced}
 use Rattle.score.specs.Rows.{Played, bent, withText, withBend, withHammer, withSlide}
-use Rattle.score.specs.Rows.{noteOf, beatMarks, addAll, marksOfNotes, marksOf, levels}
+use Rattle.score.specs.Rows.{beatMarks, addAll, marksOfNotes, marksOf}
 use Rattle.score.specs.Rows.{graceTechnique, graceText, graceHead}
 use Rattle.draft.specs.declared.graces.Graces.{Graces}
 use Rattle.draft.specs.Steps.{playedBy, addMarks, anyOf, gracesOf}
@@ -68,21 +64,6 @@ marks-packed e xs = add-all (marksOfNotes e xs ++ beatMarks e) [] distinct-nil
 
 pub marks-counted : (e : BeatEffects) (xs : List Keyed) → byteCounted (packed (marksOf e xs)) ≡ packed (marksOf e xs)
 marks-counted e xs = byte-counted (marksOf e xs) (marks-few e xs)
-
--- ---- the dynamic
-
--- `chordOf` of Level, a note at a time
-abbrev pub levelsAfter : ChordLevel → List Keyed → ChordLevel
-levelsAfter l [] = l
-levelsAfter l (x ∷ xs) = levelsAfter (chordWith l (noteOf x .level)) xs
-
-levels-onto : (ms : List NoteLevel) (xs : List Keyed) → levelsAfter (chordOf ms) xs ≡ chordOf (ms ++ levels xs)
-levels-onto ms [] = rw append-nil
-levels-onto ms (x ∷ xs) =
-    rw (← chord-more ms (noteOf x .level)) (levels-onto (ms ++ (noteOf x .level ∷ [])) xs ∙ rw append-assoc)
-
-pub levels-after : (xs : List Keyed) → levelsAfter (chordOf []) xs ≡ chordOf (levels xs)
-levels-after xs = levels-onto [] xs
 
 -- ---- graces
 

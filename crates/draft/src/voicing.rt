@@ -18,6 +18,7 @@ use crate::played::Played;
 use crate::played::played_by;
 use beat::places::Beat;
 use curve::level::ChordLevel;
+use curve::level::Level;
 use model::NoteHead;
 use model::marks::Marks;
 use model::marks::none_added;
@@ -52,18 +53,29 @@ pub fn head_of(notes: &Notes, chord: &[u32]) -> NoteHead
     NoteHead::Normal
 }
 
+// From the last member back, since the last that gives a dynamic counts. One that gives it is not emphasised.
 pub(crate) fn levels_of(notes: &Notes, chord: &[u32]) -> ChordLevel
     ensures { λ r. ⌜ ((s : List ℕ) (v : ℕ) → r
         ≡ chordOf (rule.levels (chordIn s v (now (notes .entry)) (now (chord .entry))))) ⌝ }
 {
-    let mut level = curve::level::no_chord();
-    let mut i: usize = 0;
-    while i < chord.len() {
-        let given = field::level(notes, chord::string_of(chord[i]));
-        level = curve::level::chord_with(level, given);
-        i += 1;
+    let mut emphasised = true;
+    let mut i: usize = chord.len();
+    while 0 < i {
+        i -= 1;
+        let level = field::level(notes, chord::string_of(chord[i]));
+        emphasised = level.emphasised & emphasised;
+        let given = level.given;
+        if let Level::Given(n) = given {
+            return ChordLevel {
+                emphasised: false,
+                given: Level::Given(n),
+            };
+        }
     }
-    level
+    ChordLevel {
+        emphasised,
+        given: Level::Absent,
+    }
 }
 
 fn voiced_by(b: &Beat, notes: &Notes, chord: &[u32], v: u32) -> Voiced
