@@ -51,11 +51,15 @@ unfoldable pub addMarks : Articulations → List Articulation → Articulations
 addMarks m [] = m
 addMarks m (a ∷ more) = addMarks (addMark a m) more
 
+-- whether the beat makes each of its notes a harmonic
+abbrev pub beatHarmonic : BeatEffects → Bool
+beatHarmonic e = e .«natural_harmonic» || e .«artificial_harmonic»
+
 -- ---- notes that give their row nothing: no technique and, where the beat has no harmonic, no articulations
 
 pub record Quiet (xs : List Keyed) : Type 0 where
   pub playing : played noPlay xs ≡ noPlay
-  pub marks : (e : BeatEffects) → (e .«natural_harmonic» || e .«artificial_harmonic») ≡ false → marksOfNotes e xs ≡ []
+  pub marks : (e : BeatEffects) → beatHarmonic e ≡ false → marksOfNotes e xs ≡ []
 
 -- ---- graces
 

@@ -5,7 +5,7 @@ ghost use Rattle.model.specs.Marks.{addedIn};
 ghost use Rattle.note.specs.Words.{readIn};
 ghost use Rattle.beat.specs.Words.{effectsIn};
 ghost use Rattle.score.specs.Rows as rule;
-ghost use Rattle.draft.specs.Steps.{addMarks};
+ghost use Rattle.draft.specs.Steps.{addMarks, beatHarmonic};
 use beat::effects::PickStroke;
 use beat::places::Beat;
 use model::Articulation;
@@ -24,7 +24,7 @@ fn added_if(m: Marks, given: bool, a: Articulation) -> Marks
     m
 }
 
-fn with_accent(m: Marks, notes: &Notes, string: usize) -> Marks
+pub(crate) fn with_accent(m: Marks, notes: &Notes, string: usize) -> Marks
     ensures { λ r. ⌜ ((v : ℕ) → addedIn r ≡ addMarks (addedIn m) (rule.accents (readIn v (now (notes .entry)) string))) ⌝ }
 {
     if field::heavy_accent(notes, string) {
@@ -64,11 +64,17 @@ fn with_slide(m: Marks, notes: &Notes, string: usize, v: u32) -> Marks
     added_if(m, slide.plop, Articulation::Plop)
 }
 
+// A beat's harmonic is one of each of its notes.
+pub(crate) fn beat_harmonic(b: &Beat, v: u32) -> bool
+    ensures { λ r. ⌜ r ≡ beatHarmonic (effectsIn v (now (b .entry))) ⌝ }
+{
+    beat::field::natural_harmonic(b, v) | beat::field::artificial_harmonic(b, v)
+}
+
 fn harmonic(b: &Beat, notes: &Notes, string: usize, v: u32) -> bool
     ensures { λ r. ⌜ r ≡ rule.harmonics (readIn v (now (notes .entry)) string) (effectsIn v (now (b .entry))) ⌝ }
 {
-    field::harmonic(notes, string)
-        | (beat::field::natural_harmonic(b, v) | beat::field::artificial_harmonic(b, v))
+    field::harmonic(notes, string) | beat_harmonic(b, v)
 }
 
 pub(crate) fn with_note(m: Marks, b: &Beat, notes: &Notes, string: usize, v: u32) -> Marks

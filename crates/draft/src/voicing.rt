@@ -11,6 +11,8 @@ ghost use Rattle.score.specs.Rows as rule;
 ghost use Rattle.draft.specs.Chord.{chordIn};
 ghost use Rattle.draft.specs.Steps.{playedIn, addMarks, Quiet};
 use crate::chord;
+use crate::marks::beat_harmonic;
+use crate::marks::with_accent;
 use crate::marks::with_beat;
 use crate::marks::with_note;
 use crate::played::NO_PLAY;
@@ -78,19 +80,25 @@ pub(crate) fn levels_of(notes: &Notes, chord: &[u32]) -> ChordLevel
     }
 }
 
+// A note without effects is played plainly, and has no mark but its accent and the beat's harmonic.
 fn voiced_by(b: &Beat, notes: &Notes, chord: &[u32], v: u32) -> Voiced
     ensures played { λ r. ⌜ ((s : List ℕ) → playedIn s (r .played)
         ≡ rule.played rule.noPlay (chordIn s v (now (notes .entry)) (now (chord .entry)))) ⌝ }
     ensures marks { λ r. ⌜ ((s : List ℕ) → addMarks (addedIn (r .marks)) (rule.beatMarks (effectsIn v (now (b .entry))))
         ≡ packed (rule.marksOf (effectsIn v (now (b .entry))) (chordIn s v (now (notes .entry)) (now (chord .entry))))) ⌝ }
 {
+    let harmonic = beat_harmonic(b, v);
     let mut played = NO_PLAY;
     let mut m = none_added();
     let mut i: usize = 0;
     while i < chord.len() {
         let string = chord::string_of(chord[i]);
-        played = played_by(notes, string, v, played);
-        m = with_note(m, b, notes, string, v);
+        if field::effects(notes, string) | harmonic {
+            played = played_by(notes, string, v, played);
+            m = with_note(m, b, notes, string, v);
+        } else {
+            m = with_accent(m, notes, string);
+        }
         i += 1;
     }
     Voiced { played, marks: m }
@@ -117,9 +125,7 @@ fn voiced_if(b: &Beat, notes: &Notes, chord: &[u32], v: u32) -> Voiced
     ensures marks { λ r. ⌜ ((s : List ℕ) → addMarks (addedIn (r .marks)) (rule.beatMarks (effectsIn v (now (b .entry))))
         ≡ packed (rule.marksOf (effectsIn v (now (b .entry))) (chordIn s v (now (notes .entry)) (now (chord .entry))))) ⌝ }
 {
-    let natural = beat::field::natural_harmonic(b, v);
-    let artificial = beat::field::artificial_harmonic(b, v);
-    if (natural | artificial) | any_voiced(notes, chord) {
+    if beat_harmonic(b, v) | any_voiced(notes, chord) {
         return voiced_by(b, notes, chord, v);
     }
     Voiced {

@@ -1,7 +1,7 @@
 -- The losses of the song and of a beat, one after another. Assumes nothing.
 use Prim.Native.Nat.{ℕ, zero, suc, _+_, _%_, _≤_, _<_}
 use mathlib.Core.Path.{_≡_, refl, sym, _∙_}
-use mathlib.Core.Bool.{Bool, true, false}
+use mathlib.Core.Bool.{Bool, true, false, not, _||_, true≢false}
 use mathlib.Core.List.{List, [], _∷_, _++_, map, append-nil}
 use native.Mathlib.Omega.{arith}
 use native.Mathlib.Nat.{zero-add}
@@ -17,9 +17,10 @@ use Rattle.model.specs.declared.Loss.the-variants as L
 use Rattle.model.specs.Answers.{lossNumber}
 use Rattle.note.specs.declared.marks.GraceNote.{GraceNote}
 use Rattle.note.specs.declared.marks.GraceNote.the-variants.{NoGrace, Before}
-use Rattle.note.specs.Note.{NoteIs, noNote}
+use Rattle.note.specs.Marks.{noMarks}
+use Rattle.note.specs.Note.{NoteIs, readOf, noNote}
 use Rattle.note.specs.Notes.{stringBit}
-use Rattle.note.specs.Words.{start, noteIn, readIn, stringNote, notesIn, overFrom, overStrings}
+use Rattle.note.specs.Words.{start, noteIn, readIn, handsIn, fingeredIn, WithoutEffects, stringNote, notesIn, overFrom, overStrings}
 use Rattle.note.proofs.Strings.{low-bits}
 use Rattle.beat.specs.Beat.{BeatIs}
 use Rattle.score.specs.Members.{Keyed, Graced, gracedAfter, graces}
@@ -30,6 +31,7 @@ use Rattle.draft.specs.Chord.{stringOf, keyedIn, chordIn}
 use Rattle.words.specs.Words.{wordPlus, words}
 use Rattle.words.specs.Reports.{reports}
 use Rattle.words.proofs.Reports.{reports-in, reports-none, reports-append}
+use Rattle.losses.specs.Notes.{Lossless}
 use Rattle.losses.specs.Graces.{onBeat}
 
 pub numbered : (l : Loss) → lossNumber l < 17
@@ -63,6 +65,17 @@ reported-if false l counts = set-getD counts (lossNumber l) 0
 pub sign-next : (lost : Bool) (n : ℕ) (l : Loss) → reported (oneIf lost + n) l ≡ reportIf lost l ++ reported n l
 sign-next true n l = let e : 1 + n ≡ suc n = omega arith in rw e
 sign-next false n l = rw zero-add
+
+-- ---- a note with neither effects nor fingers
+
+pub no-losses : {v : ℕ} {w : List ℕ} (i : ℕ) (a b : Bool) → (a ≡ false → WithoutEffects v w i) → b ≡ fingeredIn w i
+    → not (a || b) ≡ true → Lossless (readIn v w i)
+unfolding readOf handsIn fingeredIn noMarks
+no-losses i true b without fingers e = absurd (true≢false (sym e))
+no-losses i false true without fingers e = absurd (true≢false (sym e))
+no-losses i false false without fingers e =
+    let marks = without refl .marks in
+    record { reading = rw (← fingers, marks); building = rw (← fingers, marks) }
 
 -- ---- the notes of a beat, string by string
 

@@ -1,1 +1,2 @@
 pub mod Graces
+pub mod Notes

@@ -1,6 +1,7 @@
 // Losses: each report adds one. Those of reading a beat count whether it is kept or not, those of building its row
 // only where it is.
 ghost use mathlib.Core.Path.{_≡_};
+ghost use mathlib.Core.Bool.{true};
 ghost use mathlib.Core.List.{List, _++_};
 ghost use Prim.Native.Nat.{ℕ};
 ghost use lib.ListN.{replicate};
@@ -17,6 +18,7 @@ ghost use Rattle.score.specs.Page as page;
 ghost use Rattle.draft.specs.Chord.{chordIn};
 ghost use Rattle.words.specs.Words.{words, wordPlus};
 ghost use Rattle.words.specs.Reports.{reports};
+ghost use Rattle.losses.specs.Notes.{Lossless};
 ghost use Rattle.losses.specs.Graces.{onBeat};
 use beat::places::Beat;
 use draft::chord;
@@ -112,9 +114,19 @@ fn mix_losses(losses: &mut Losses, b: &Beat)
     );
 }
 
+// Most notes have neither effects nor fingers, and lose nothing.
+fn lossless(notes: &Notes, string: usize) -> bool
+    ensures { λ r. ⌜ ((v : ℕ) → r ≡ true → Lossless (readIn v (now (notes .entry)) string)) ⌝ }
+{
+    !(field::effects(notes, string) | field::fingered(notes, string))
+}
+
 fn note_losses(losses: &mut Losses, notes: &Notes, string: usize, v: u32)
     ensures { λ _. ⌜ now (losses .exit) ≡ reports (rule.noteLosses (readIn v (now (notes .entry)) string)) (now (losses .entry)) ⌝ }
 {
+    if lossless(notes, string) {
+        return;
+    }
     let slide = field::slide(notes, string, v);
     lose_if(
         losses,
@@ -180,6 +192,9 @@ fn on_beat(grace: GraceNote) -> bool
 fn built_losses(losses: &mut Losses, notes: &Notes, string: usize)
     ensures { λ _. ⌜ ((v : ℕ) → now (losses .exit) ≡ reports (rule.builtLosses (readIn v (now (notes .entry)) string)) (now (losses .entry))) ⌝ }
 {
+    if lossless(notes, string) {
+        return;
+    }
     let rung = field::palm_mute(notes, string) & field::let_ring(notes, string);
     lose_if(losses, rung, Loss::LetRingWithPalmMute);
     let hand = field::left_hand(notes, string);

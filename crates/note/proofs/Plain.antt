@@ -1,4 +1,4 @@
--- A note without accents and flags of effects gives nothing to a row's articulations and technique. Assumes nothing.
+-- A note without flags of effects has no effects and no bend; one without accents too is plain. Assumes nothing.
 use Prim.Native.Nat.{ℕ, _+_}
 use mathlib.Core.Path.{_≡_, refl, sym, _∙_}
 use mathlib.Core.Bool.{Bool, true, false, not, _||_, true≢false}
@@ -7,7 +7,7 @@ use lib.Dec.{eqb}
 use borrow.Author.Tests.{eqb-true}
 use Rattle.format.specs.Prog.{has}
 use Rattle.note.specs.Note.{readOf}
-use Rattle.note.specs.Words.{FIRST, MORE, start, byteIn, marksIn, bendBy, bendAt, readIn, Plain}
+use Rattle.note.specs.Words.{FIRST, MORE, start, byteIn, marksIn, bendBy, bendAt, readIn, WithoutEffects, Plain}
 use Rattle.note.proofs.Filled.{no-marks}
 
 or-left : (a b : Bool) → (a || b) ≡ false → a ≡ false
@@ -25,18 +25,20 @@ none n e = eqb-true n 0 (by (eqb n 0) e)
     by true h = refl
     by false h = absurd (true≢false h)
 
-pub plain : {v : ℕ} {w : List ℕ} (i : ℕ) (a h : Bool) (f m : ℕ) → a ≡ readIn v w i .accent → h ≡ readIn v w i .«heavy_accent»
-    → f ≡ byteIn w (start i + FIRST) → m ≡ byteIn w (start i + MORE)
-    → (a || (h || (not (eqb f 0) || not (eqb m 0)))) ≡ false → Plain v w i
+pub without-effects : {v : ℕ} {w : List ℕ} (i : ℕ) {f m : ℕ} → f ≡ byteIn w (start i + FIRST) → m ≡ byteIn w (start i + MORE)
+    → (not (eqb f 0) || not (eqb m 0)) ≡ false → WithoutEffects v w i
 unfolding readOf marksIn bendAt bendBy has
-plain {v} {w} i a h f m ea eh ef em e =
-    let others = or-right a (h || (not (eqb f 0) || not (eqb m 0))) e in
-    let effects = or-right h (not (eqb f 0) || not (eqb m 0)) others in
-    let first : byteIn w (start i + FIRST) ≡ 0 = sym ef ∙ none f (or-left (not (eqb f 0)) (not (eqb m 0)) effects) in
-    let more : byteIn w (start i + MORE) ≡ 0 = sym em ∙ none m (or-right (not (eqb f 0)) (not (eqb m 0)) effects) in
+without-effects {v} {w} i {f} {m} ef em e =
+    let first : byteIn w (start i + FIRST) ≡ 0 = sym ef ∙ none f (or-left (not (eqb f 0)) (not (eqb m 0)) e) in
+    let more : byteIn w (start i + MORE) ≡ 0 = sym em ∙ none m (or-right (not (eqb f 0)) (not (eqb m 0)) e) in
+    record { marks = rw (first, more) (no-marks v w (start i)); bend = rw first }
+
+pub plain : {v : ℕ} {w : List ℕ} (i : ℕ) {a h e : Bool} → a ≡ readIn v w i .accent → h ≡ readIn v w i .«heavy_accent»
+    → (e ≡ false → WithoutEffects v w i) → (a || (h || e)) ≡ false → Plain v w i
+plain i {a} {h} {e} ea eh without none =
+    let others = or-right a (h || e) none in
     record {
-      light = sym ea ∙ or-left a (h || (not (eqb f 0) || not (eqb m 0))) e;
-      heavy = sym eh ∙ or-left h (not (eqb f 0) || not (eqb m 0)) others;
-      marks = rw (first, more) (no-marks v w (start i));
-      bend = rw first;
+      light = sym ea ∙ or-left a (h || e) none;
+      heavy = sym eh ∙ or-left h e others;
+      effects = without (or-right h e others);
     }

@@ -158,22 +158,28 @@ noteIn s v w o = noteBytes s v (byteIn w (o + FLAGS)) w o
 abbrev pub readIn : (v : ℕ) → List ℕ → ℕ → NoteRead
 readIn v w i = noteIn [] v w (start i) .read
 
--- whether a note has an accent, of any version, or flags of effects
+-- whether a note has flags of effects
+unfoldable pub effectsGiven : List ℕ → ℕ → Bool
+effectsGiven w i = not (eqb (byteIn w (start i + FIRST)) 0) || not (eqb (byteIn w (start i + MORE)) 0)
+
+-- whether it has an accent, of any version, or flags of effects
 unfoldable pub voicedIn : List ℕ → ℕ → Bool
-voicedIn w i =
-    readIn 0 w i .accent
-    || (readIn 0 w i .«heavy_accent» || (not (eqb (byteIn w (start i + FIRST)) 0) || not (eqb (byteIn w (start i + MORE)) 0)))
+voicedIn w i = readIn 0 w i .accent || (readIn 0 w i .«heavy_accent» || effectsGiven w i)
 
 -- whether it has fingers, of either hand
 unfoldable pub fingeredIn : List ℕ → ℕ → Bool
 fingeredIn w i = has (byteIn w (start i + FLAGS)) 0x80
 
--- a note without accents, effects and a bend
+-- a note without effects and a bend
+pub record WithoutEffects (v : ℕ) (w : List ℕ) (i : ℕ) : Type 0 where
+  pub marks : readIn v w i .effects ≡ noMarks
+  pub bend : bendAt w (start i) .count ≡ 0
+
+-- and without accents
 pub record Plain (v : ℕ) (w : List ℕ) (i : ℕ) : Type 0 where
   pub heavy : readIn v w i .«heavy_accent» ≡ false
   pub light : readIn v w i .accent ≡ false
-  pub marks : readIn v w i .effects ≡ noMarks
-  pub bend : bendAt w (start i) .count ≡ 0
+  pub effects : WithoutEffects v w i
 
 -- ---- the notes of a beat
 abbrev pub seven : {A : Type 0} → (ℕ → A) → List A

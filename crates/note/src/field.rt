@@ -2,7 +2,7 @@
 ghost use mathlib.Core.Path.{_≡_};
 ghost use mathlib.Core.Bool.{false};
 ghost use Prim.Native.Nat.{ℕ, _+_, _<_};
-ghost use Rattle.note.specs.Marks as effects;
+ghost use Rattle.note.specs.Marks as marking;
 ghost use Rattle.note.specs.Note as format;
 ghost use Rattle.note.specs.Words as meaning;
 use crate::LeftHand;
@@ -177,7 +177,7 @@ pub fn level(w: &Notes, i: usize) -> NoteLevel
 }
 
 fn grace_of(fret: u8, transition: u8, flags: u8) -> GraceNote
-    ensures { λ r. ⌜ r ≡ effects.graceOf fret transition flags ⌝ }
+    ensures { λ r. ⌜ r ≡ marking.graceOf fret transition flags ⌝ }
 {
     GraceNote::Before(Grace {
         fret: curve::held::fret_of(fret),
@@ -201,7 +201,7 @@ pub fn grace(w: &Notes, i: usize) -> GraceNote
 }
 
 fn slide_flag(v: u32, flags: u8) -> SlideEffect
-    ensures { λ r. ⌜ r ≡ effects.slideFlag v flags ⌝ }
+    ensures { λ r. ⌜ r ≡ marking.slideFlag v flags ⌝ }
 {
     SlideEffect {
         slide: (v < 400) & (flags & 0x04 != 0),
@@ -237,14 +237,20 @@ pub fn bend(w: &Notes, i: usize) -> Bend
     }
 }
 
+// Whether it has flags of effects: one that has none adds nothing but its accent to its row.
+pub fn effects(w: &Notes, i: usize) -> bool
+    ensures told { λ r. ⌜ r ≡ meaning.effectsGiven (now (w .entry)) i ⌝ }
+    ensures none { λ r. ⌜ ((v : ℕ) → r ≡ false → meaning.WithoutEffects v (now (w .entry)) i) ⌝ }
+{
+    (byte(w, i, places::FIRST) != 0) | (byte(w, i, places::MORE) != 0)
+}
+
 // Whether it has an accent or flags of effects: one that has none gives nothing to its row's articulations and technique.
 pub fn voiced(w: &Notes, i: usize) -> bool
     ensures told { λ r. ⌜ r ≡ meaning.voicedIn (now (w .entry)) i ⌝ }
     ensures plain { λ r. ⌜ ((v : ℕ) → r ≡ false → meaning.Plain v (now (w .entry)) i) ⌝ }
 {
-    accent(w, i)
-        | (heavy_accent(w, i)
-            | ((byte(w, i, places::FIRST) != 0) | (byte(w, i, places::MORE) != 0)))
+    accent(w, i) | (heavy_accent(w, i) | effects(w, i))
 }
 
 // Whether it has fingers, of either hand.

@@ -1,5 +1,5 @@
--- One after another. Assumes nothing.
-use Rattle.words.proofs.Reports.{reports-append}
+-- None, or one after another. Assumes nothing.
+use Rattle.words.proofs.Reports.{reports-none, reports-append}
 use borrow.Author.Needs.{needs}
 use Rattle.losses.proofs.built_losses.Statement.{statement}
 use Rattle.losses.proofs.built_losses.Tie as tie
@@ -8,6 +8,8 @@ pub built-losses-spec : {M : Type 1} → statement M
 built-losses-spec =
     tie.close
     (tie.spec
+    (λ c κs. search needs)
+    (λ c v. rw (c .before .lossless .ensures v (c .if1 .taken) .building, reports-none))
     (λ c κs. search needs)
     (λ c κs. search needs)
     (λ c κs. search needs)

@@ -1,5 +1,5 @@
--- One after another. Assumes nothing.
-use Rattle.words.proofs.Reports.{reports-append}
+-- None, or one after another. Assumes nothing.
+use Rattle.words.proofs.Reports.{reports-none, reports-append}
 use borrow.Author.Needs.{needs}
 use Rattle.losses.proofs.note_losses.Statement.{statement}
 use Rattle.losses.proofs.note_losses.Tie as tie
@@ -9,11 +9,13 @@ note-losses-spec =
     tie.close
     (tie.spec
     (λ c κs. search needs)
+    (λ c. rw (c .before .lossless .ensures (c .before .before .args .v) (c .if1 .taken) .reading, reports-none))
+    (λ c κs. search needs)
     (λ c κs. search needs)
     (λ c κs. search needs)
     (λ c κs. search needs)
     (λ c κs. search needs)
     (λ c κs. search needs)
     (λ c.
-    let v = c .before .before .before .before .before .before .before .before .before .args .v in
+    let v = c .before .before .before .before .before .before .before .before .before .before .before .args .v in
     rw (c .lose-if3 .ensures, c .before .harmonic-lost .ensures v, c .before .before .before .lose-if2 .ensures, c .before .before .before .before .before .lose-if .ensures, c .before .before .before .before .before .before .right-hand-lost .ensures v, c .before .before .before .before .before .before .before .before .slide .ensures) (simp reports-append)))

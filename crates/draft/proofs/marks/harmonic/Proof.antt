@@ -9,7 +9,4 @@ harmonic-spec =
     (tie.spec
     (λ c κs. search needs)
     (λ c κs. search needs)
-    (λ c κs. search needs)
-    (λ c.
-    let a = c .before .before .before .args in
-    rw (c .artificial-harmonic .ensures, c .before .natural-harmonic .ensures, c .before .before .harmonic .ensures (a .v))))
+    (λ c. rw (c .beat-harmonic .ensures, c .before .harmonic .ensures (c .before .before .args .v))))

@@ -1,4 +1,4 @@
--- By its accents and its two bytes of effects. Assumes nothing.
+-- By its accents and its effects. Assumes nothing.
 use borrow.Author.Needs.{needs}
 use Rattle.note.specs.Words.{voicedIn}
 use Rattle.note.proofs.Plain.{plain}
@@ -13,11 +13,9 @@ voiced-spec =
     (λ c κs. search needs)
     (λ c κs. search needs)
     (λ c κs. search needs)
-    (λ c κs. search needs)
     (λ c.
-    let o = c .before .before .before in (
-      rw (o .accent .ensures 0, c .before .before .heavy-accent .ensures 0, c .before .byte .ensures, c .byte2 .ensures),
-      λ v e. plain (o .before .args .i) (o .accent .result) (c .before .before .heavy-accent .result) (c .before .byte .result)
-          (c .byte2 .result) (o .accent .ensures v) (c .before .before .heavy-accent .ensures v) (c .before .byte .ensures)
-          (c .byte2 .ensures) e,
+    let light = c .before .before .accent .ensures in
+    let heavy = c .before .heavy-accent .ensures in (
+      rw (light 0, heavy 0, c .effects .ensures .0),
+      λ v e. plain (c .before .before .before .args .i) (light v) (heavy v) (c .effects .ensures .1 v) e,
     )))
