@@ -7,3 +7,4 @@ pub mod Strings
 pub mod Straight
 pub mod Turns
 pub mod Over
+pub mod Hop

@@ -3,13 +3,12 @@ use Prim.Native.Nat.{ℕ, _+_, _-_, _≤_, _<_}
 use native.Mathlib.Omega.{arith}
 use mathlib.Core.Path.{_≡_, refl, _∙_}
 use mathlib.Core.List.{List}
-use mathlib.Core.Bool.{Bool, true, false, not, _&&_}
+use mathlib.Core.Bool.{Bool, true, false, _&&_}
 use lib.ListN.{getD, length}
 use lib.Bits.{bitAnd}
 use lib.Dec.{leb, ltb, eqb}
-use borrow.Author.Tests.{eqb-true, leb-true, eq-eqb}
+use borrow.Author.Tests.{eqb-true, leb-true}
 use Rattle.format.specs.declared.Place.the-variants.{At}
-use Rattle.format.specs.Text.{pick}
 use Rattle.format.specs.Prog.{Prog, has}
 use Rattle.format.specs.Fields.{u8}
 use Rattle.format.specs.Padded.{Padded}
@@ -20,32 +19,25 @@ use Rattle.note.specs.Marks.{noteEffects, noNoteEffects}
 use Rattle.note.specs.Note.{accidental, percent, frettedByte, ownDuration, noteEnd, noteBy, note}
 use Rattle.note.specs.Words.{byteIn, marksIn, bendAt, effectsAt, noteIn, Kept, Stored, Fills, FillsTo}
 use Rattle.note.proofs.Stores.{kept-on, byte-kept}
-use Rattle.note.proofs.Strings.{all, all-at, both, given, not-so}
+use Rattle.note.proofs.Strings.{masked}
 use Rattle.note.proofs.Filled.{pad-byte-to, and-false, no-marks, no-bend, hands-none, dynamic-kept, dynamic-read}
 
--- ---- the flags: a test that is computed for every byte
+-- ---- the flags
 pub record Straight (flags : ℕ) : Type 0 where
   pub fretted : has flags 0x20 ≡ true
   pub steady : has flags 0x01 ≡ false
   pub unmarked : bitAnd flags 0x08 ≡ 0
   pub unfingered : bitAnd flags 0x80 ≡ 0
 
-abbrev straight : ℕ → Bool
-straight m =
-    pick (eqb (bitAnd m 0xA9) 0x20)
-    (pick (pick (has m 0x20) (not (has m 0x01)) false) (pick (eqb (bitAnd m 0x08) 0) (eqb (bitAnd m 0x80) 0) false) false)
-    true
-
-computed : all 256 straight ≡ true
+pub straight-flags : (flags : ℕ) → bitAnd flags 0xA9 ≡ 0x20 → Straight flags
 unfolding has
-computed = refl
-
-pub straight-flags : (flags : ℕ) → flags < 256 → bitAnd flags 0xA9 ≡ 0x20 → Straight flags
-straight-flags m h e =
-    let x = both _ _ (given _ _ (all-at 256 straight computed m h) (eq-eqb _ _ e)) in
-    let f = both _ _ (x .0) in
-    let g = both _ _ (x .1) in
-    record { fretted = f .0; steady = not-so _ (f .1); unmarked = eqb-true _ _ (g .0); unfingered = eqb-true _ _ (g .1) }
+straight-flags m e =
+    record {
+      fretted = rw (masked m 0xA9 0x20 refl, e);
+      steady = rw (masked m 0xA9 0x01 refl, e);
+      unmarked = rw (masked m 0xA9 0x08 refl, e);
+      unfingered = rw (masked m 0xA9 0x80 refl, e);
+    }
 
 -- the test for such a note, at a position of a file of n bytes
 pub tested : (flags n at : ℕ) → (eqb (bitAnd flags 0xA9) 0x20 && leb 5 (n - at)) ≡ true → (bitAnd flags 0xA9 ≡ 0x20) × (5 ≤ n - at)
@@ -57,11 +49,11 @@ tested flags n at e = let x = and-true (eqb (bitAnd flags 0xA9) 0x20) (leb 5 (n 
 
 -- ---- the fields
 module _ {s : List ℕ} {at : ℕ} (flags : ℕ) where
-  fretted-read : {b next : ℕ} → has flags 0x20 ≡ true → b ≡ getD s at 0 → at + 1 ≡ next → Padded (frettedByte flags) s at b next
+  pub fretted-read : {b next : ℕ} → has flags 0x20 ≡ true → b ≡ getD s at 0 → at + 1 ≡ next → Padded (frettedByte flags) s at b next
   unfolding frettedByte optional
   fretted-read h e n = rw h (pad-byte-to e n)
 
-  no-duration : (v : ℕ) → has flags 0x01 ≡ false → Padded (ownDuration v flags) s at tt at
+  pub no-duration : (v : ℕ) → has flags 0x01 ≡ false → Padded (ownDuration v flags) s at tt at
   unfolding ownDuration optional
   no-duration v h = rw (h, and-false (ltb v 500)) pad.here
 
@@ -69,7 +61,7 @@ module _ {s : List ℕ} {at : ℕ} (flags : ℕ) where
   unfolding percent optional
   no-percent v h = rw (h, and-false (leb 500 v)) pad.here
 
-  turned-read : {b next : ℕ} (v : ℕ) → has flags 0x01 ≡ false → Padded (optional (leb 500 v) u8 0) s at b next → Padded (accidental v flags) s at b next
+  pub turned-read : {b next : ℕ} (v : ℕ) → has flags 0x01 ≡ false → Padded (optional (leb 500 v) u8 0) s at b next → Padded (accidental v flags) s at b next
   unfolding accidental
   turned-read v h p = pad.on _ (no-percent v h) p
 

@@ -1,12 +1,14 @@
 // The notes of a beat: at most seven, one for each string bit that is set.
 ghost use mathlib.Core.Path.{_≡_};
 ghost use Rattle.format.specs.Padded.{Near, Arrives};
-ghost use Prim.Native.Nat.{_≤_};
+ghost use Prim.Native.Nat.{_+_, _<_, _≤_};
 ghost use lib.Bits.{bitAnd};
 ghost use lib.ListN.{length, getD};
 ghost use Rattle.note.specs.Note as note;
 ghost use Rattle.note.specs.Notes as format;
 ghost use Rattle.note.specs.Words as meaning;
+ghost use Rattle.note.specs.Hop as hop;
+ghost use Rattle.note.specs.declared.notes.Hop.the-variants.{To};
 use crate::places;
 use crate::places::Notes;
 use crate::places::put;
@@ -73,4 +75,63 @@ pub fn read_notes(s: &[u8], from: usize, v: u32, strings: u8, w: &mut Notes) -> 
         mask = other_strings(mask, i);
     }
     Place::At(at)
+}
+
+// ---- plain notes are hopped over, where nothing of them is kept
+
+pub enum Hop {
+    To(usize),
+    No,
+}
+
+// Seven notes of five bytes at most: then all of them are there.
+const SEVEN_NOTES: usize = 35;
+
+// The bytes of a plain note without a dynamic.
+fn size_without(v: u32) -> usize
+    ensures { λ r. ⌜ r ≡ hop.sizeWithout v ⌝ }
+{
+    if 500 <= v {
+        return 4;
+    }
+    3
+}
+
+fn hop_note(s: &[u8], at: usize, v: u32) -> Hop
+    requires { ⌜ Near 5 at × (at < length (now s)) ⌝ }
+    ensures { λ r. ⌜ r ≡ hop.hopNote (now (s .entry)) v (To at) ⌝ }
+{
+    let flags = s[at];
+    if flags & 0xA9 != 0x20 {
+        return Hop::No;
+    }
+    let size = size_without(v);
+    if flags & 0x10 == 0 {
+        return Hop::To(at + size);
+    }
+    Hop::To(at + size + 1)
+}
+
+// Past the notes of a beat, where all of them are plain: kind, fret and perhaps a dynamic.
+pub fn hop_notes(s: &[u8], from: usize, v: u32, strings: u8) -> Hop
+    ensures { λ r. ⌜ hop.Hops v strings (now (s .entry)) from r ⌝ }
+{
+    if s.len() < from {
+        return Hop::No;
+    }
+    if s.len() - from < SEVEN_NOTES {
+        return Hop::No;
+    }
+    let mut at = from;
+    let mut mask = (strings % 128) as u32;
+    while mask != 0 {
+        let past = hop_note(s, at, v);
+        let Hop::To(next) = past else {
+            return past;
+        };
+        at = next;
+        // the last string goes: how many there are is all that counts
+        mask = mask & (mask - 1);
+    }
+    Hop::To(at)
 }

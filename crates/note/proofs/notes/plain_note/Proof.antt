@@ -1,6 +1,5 @@
 -- One field after another. Assumes nothing.
 use borrow.Author.Needs.{needs}
-use native.Mathlib.Omega.{arith}
 use Rattle.format.specs.Prog.{has}
 use Rattle.note.proofs.Straight.{straight-flags, straight-read}
 use Rattle.note.proofs.notes.plain_note.Statement.{statement}
@@ -30,4 +29,4 @@ plain-note-spec =
     (λ c κs. search needs)
     (λ c. search needs)
     (λ c κs. search needs)
-    (λ c. straight-read _ _ (c .before .before .before .before .before .before .before .before .before .before .before .before .before .before .before .before .before .pre .2) (straight-flags _ (omega (arith, c .before .before .before .before .before .before .before .before .before .before .before .before .before .before .before .before .before .fits .flags)) (c .before .before .before .before .before .before .before .before .before .before .before .before .before .before .before .before .before .pre .3)) (c .before .before .before .before .before .before .before .before .before .before .before .before .before .before .put .ensures) (c .before .before .before .before .before .before .before .before .before .before .before .before .byte .ensures) (c .before .before .before .before .before .before .before .before .before .before .before .put2 .ensures) (c .before .before .before .before .before .before .before .before .before .put-if .ensures) (c .before .before .before .before .before .before .before .byte2 .ensures) (c .before .before .before .before .before .before .put3 .ensures) (c .before .before .before .before .put-if2 .ensures) (c .before .before .put4 .ensures) (c .put5 .ensures)))
+    (λ c. straight-read _ _ (c .before .before .before .before .before .before .before .before .before .before .before .before .before .before .before .before .before .pre .2) (straight-flags _ (c .before .before .before .before .before .before .before .before .before .before .before .before .before .before .before .before .before .pre .3)) (c .before .before .before .before .before .before .before .before .before .before .before .before .before .before .put .ensures) (c .before .before .before .before .before .before .before .before .before .before .before .before .byte .ensures) (c .before .before .before .before .before .before .before .before .before .before .before .put2 .ensures) (c .before .before .before .before .before .before .before .before .before .put-if .ensures) (c .before .before .before .before .before .before .before .byte2 .ensures) (c .before .before .before .before .before .before .put3 .ensures) (c .before .before .before .before .put-if2 .ensures) (c .before .before .put4 .ensures) (c .put5 .ensures)))
