@@ -8,6 +8,7 @@ pub mod chord; // the chord's name, and the beat's text
 pub mod effects; // the effects of a beat
 pub mod mix; // the mix table of a beat
 pub mod tail; // the ottava
+pub mod hop; // past a plain beat
 pub mod field; // what the words of a beat say
 pub mod places; // the words of a beat
 

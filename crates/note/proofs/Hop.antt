@@ -235,14 +235,16 @@ hopped s from v strings next = by (leb (from + 35) (length s)) refl
     by false q e = clash (cc)
     by true q e =
         let room : from + 35 ≤ length s = leb-true _ _ q in
+        let near : next ≤ from + 35 = omega (arith, times-near s v (stringCount strings) from next e, seven-most strings) in
         let r = hop-from s v strings next 7 0 from noNotes none-marked e in
         record {
           over = r .over;
           reads =
               record {
-                within = λ l. record { reaches = r .reads .there (omega (arith, times-near s v (stringCount strings) from next e, seven-most strings)) };
+                within = λ l. record { reaches = r .reads .there (omega arith) };
                 beyond = λ g. let z : ⊥ = omega arith in absurd z;
               };
+          near = near;
           unmarked = r .unmarked;
           seven = r .long;
         }

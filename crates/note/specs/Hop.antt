@@ -1,6 +1,6 @@
 -- Past the notes of a beat, where all are plain: kind, fret and perhaps a dynamic. A shortcut for a pass that only counts: nothing of them
 -- is kept. Assumes nothing.
-use Prim.Native.Nat.{ℕ, zero, suc, _+_}
+use Prim.Native.Nat.{ℕ, zero, suc, _+_, _≤_}
 use mathlib.Core.Path.{_≡_}
 use mathlib.Core.List.{List, [], _∷_}
 use lib.ListN.{getD, length}
@@ -58,6 +58,7 @@ hopNotes s from v strings = pick (leb (from + 35) (length s)) (hopTimes s v (str
 pub record Hopped (v strings : ℕ) (s : List ℕ) (from next : ℕ) : Type 0 where
   pub over : List NoteIs
   pub reads : Arrives (notes v strings) s from over (At next)
+  pub near : next ≤ from + 35
   pub unmarked : AllUnmarked over
   pub seven : length over ≡ 7
 
