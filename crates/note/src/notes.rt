@@ -123,15 +123,15 @@ pub fn hop_notes(s: &[u8], from: usize, v: u32, strings: u8) -> Hop
         return Hop::No;
     }
     let mut at = from;
-    let mut mask = (strings % 128) as u32;
-    while mask != 0 {
+    let mut left = (strings % 128) as u32;
+    while left != 0 {
         let past = hop_note(s, at, v);
         let Hop::To(next) = past else {
             return past;
         };
         at = next;
         // the last string goes: how many there are is all that counts
-        mask = mask & (mask - 1);
+        left = left & (left - 1);
     }
     Hop::To(at)
 }

@@ -21,7 +21,9 @@ use track::Track;
 
 pub const PART_WORDS: usize = 42;
 
-// Where the running dynamic and the voices stand in their part.
+// Where the number of strings, the running dynamic and the voices stand in their part.
+const STRING_COUNT: usize = 0;
+
 const RUNNING: usize = 11;
 
 const FIRST_VOICE: usize = 12;
@@ -131,6 +133,13 @@ pub fn board_at(parts: &[u32], track: usize) -> Fretboard
         return board_of(&w[..BOARD_WORDS]);
     }
     board_of(w)
+}
+
+// How many strings a track has, without the rest of its fretboard.
+pub fn string_count_at(parts: &[u32], track: usize) -> u8
+    ensures { λ r. ⌜ r ≡ boardFrom (track * partStride) (now (parts .entry)) .strings .count ⌝ }
+{
+    byte_at(parts, track, STRING_COUNT)
 }
 
 fn board_words(x: Fretboard) -> [u32; 11]
