@@ -3,3 +3,4 @@ mod Heard
 mod Unmarked
 mod Bare
 mod Plainly
+mod Counts

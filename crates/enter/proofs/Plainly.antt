@@ -1,13 +1,12 @@
 -- A plain beat entered step by step is the beat entered. Assumes nothing.
 use Prim.Native.Nat.{ℕ, _+_, _*_, _≤_}
-use native.Mathlib.Omega.{arith}
 use mathlib.Core.Path.{_≡_, refl, sym, ap, _∙_}
 use mathlib.Core.List.{List, [], _∷_, _++_}
 use mathlib.Core.Bool.{Bool, true, false}
 use lib.Dec.{eqb}
 use lib.ListN.{getD}
 use lib.Seq.{set-getD}
-use borrow.Author.Tests.{eqb-true, le-leb}
+use borrow.Author.Tests.{eqb-true}
 use Rattle.format.specs.Text.{pick}
 use Rattle.model.specs.declared.Loss.{Loss}
 use Rattle.model.specs.declared.Place.{Place}
@@ -28,6 +27,7 @@ use Rattle.score.specs.Losses.{buildingLosses}
 use Rattle.score.specs.Page.{Rowing, keepRow, keepRows, keepBeat, withFrets, runningAfter, beatLosses, report, addBeat, bendRooms, keepText, textsAfter}
 use Rattle.words.specs.Words.{Words, words, wordPlus, LARGEST, firstWord, tempoWords}
 use Rattle.words.specs.Meant.{rowingOf, walkOf}
+use Rattle.losses.proofs.Sums.{plus-none}
 use Rattle.page.specs.Plain.{plainRow}
 use Rattle.enter.specs.declared.Progress.{Progress}
 use Rattle.enter.specs.Steps.{Sounded, soundedOf, sounded, own, tallyOf, progressWith}
@@ -71,12 +71,6 @@ same-bars : (i : ℕ) (t : List ℕ) → tempoWords i NoTempo t ≡ t
 unfolding tempoWords
 same-bars i t = rw (same-word (getD t (i * barStride + tempoAt) 0)) (set-getD t (i * barStride + tempoAt) 0)
 
-same-room : (n : ℕ) → n ≤ LARGEST → wordPlus n 0 ≡ n
-unfolding wordPlus
-same-room n h =
-    let z : n + 0 ≡ n = omega arith in
-    rw (z, le-leb n LARGEST h)
-
 abbrev pub withKept : Kept → Progress → Progress
 withKept kept p =
     record { kept = kept; texts = p .texts; «text_room» = p .«text_room»; «point_room» = p .«point_room»; flat = p .flat }
@@ -97,7 +91,7 @@ module _ (s : List ℕ) (place : Place) (b : BeatIs) (progress : Progress) (lost
       let h : chord ≡ _ = ap (λ (x : Sounded). x .chord) e in
       let built : buildingLosses b chord ≡ [] = ap (λ (xs : List Keyed). buildingLosses b xs) h ∙ plain .built _ _ in
       let room : progress .«point_room» ≡ wordPlus (progress .«point_room») (bendRooms (b .strings) 0 (b .notes)) =
-      sym (ap (λ n. wordPlus (progress .«point_room») n) (plain .rooms) ∙ same-room (progress .«point_room») fits) in
+      sym (ap (λ n. wordPlus (progress .«point_room») n) (plain .rooms) ∙ plus-none (progress .«point_room») fits) in
       adds s place b progress lost bars rows members points texts parts e
       (sym (ap (λ t. pick t (keepText (words s) (progress .texts) (own s place b (progress .texts) texts) texts) texts) (plain .text)))
       (sym (ap (λ t. pick t (textsAfter (words s) (progress .texts) (own s place b (progress .texts) texts) texts) (progress .texts)) (plain .text)))

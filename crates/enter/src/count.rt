@@ -2,6 +2,8 @@
 ghost use mathlib.Core.Path.{_≡_};
 ghost use mathlib.Core.List.{List};
 ghost use Prim.Native.Nat.{ℕ, _≤_};
+ghost use Rattle.beat.specs.Beat.{BeatIs};
+ghost use Rattle.beat.specs.Hop.{Unmarked};
 ghost use Rattle.beat.specs.Words.{beatIn};
 ghost use Rattle.words.specs.Counted.{oneNote, oneGrace, graceOf, graced, keptWith, keptOf, stringsOn, countTally};
 ghost use Rattle.words.specs.Counted as spec;
@@ -15,6 +17,7 @@ use note::notes::first_string;
 use note::notes::other_strings;
 use note::places::Notes;
 use score::Kept;
+use tracks::parts::string_count_at;
 use words::plus;
 
 // How many notes sound, and how many graces stand before them.
@@ -99,15 +102,33 @@ pub fn count_beat(
 ) -> Progress
     ensures { λ r. ⌜ ((v : ℕ) (lost : List ℕ) → tallyOf r lost ≡ countTally (stringsOn track (now (parts .entry))) (beatIn (now (s .entry)) v (now (b .entry)) (now (notes .entry))) (tallyOf progress lost)) ⌝ }
 {
-    let board = tracks::parts::board_at(parts, track);
-    let strings = board.strings;
     let before = progress.kept;
-    let kept = kept_of(b, notes, strings.count, before);
+    let kept = kept_of(b, notes, string_count_at(parts, track), before);
     Progress {
         kept,
         texts: progress.texts,
         text_room: crate::text_room(s, progress.text_room, b),
         point_room: plus(progress.point_room, losses::rooms::bend_rooms(b, notes)),
+        flat: progress.flat,
+    }
+}
+
+// A beat of plain notes: one row, and a member for each string that sounds.
+pub fn count_plain(strings: u8, track: usize, progress: Progress, parts: &[u32]) -> Progress
+    ensures { λ r. ⌜ ((x : BeatIs) (lost : List ℕ) → Unmarked strings x → tallyOf r lost ≡ countTally (stringsOn track (now (parts .entry))) x (tallyOf progress lost)) ⌝ }
+{
+    let sounding = that_sound(strings, string_count_at(parts, track));
+    let before = progress.kept;
+    let heard = Heard {
+        notes: u32::count_ones(sounding),
+        graces: 0,
+    };
+    let kept = kept_with(before, heard);
+    Progress {
+        kept,
+        texts: progress.texts,
+        text_room: progress.text_room,
+        point_room: progress.point_room,
         flat: progress.flat,
     }
 }

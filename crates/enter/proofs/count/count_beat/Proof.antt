@@ -19,9 +19,9 @@ count-beat-spec =
     (λ c v lost.
     rw (
       c .plus .ensures,
-      c .before .bend-rooms .ensures (c .before .before .before .before .before .before .before .before .before .args .s .now) v,
+      c .before .bend-rooms .ensures (c .before .before .before .before .before .before .before .before .args .s .now) v,
       plus-cut _ _,
       c .before .before .text-room .ensures v [],
-      c .before .before .before .kept-of .ensures (c .before .before .before .before .before .before .before .before .before .args .s .now) v,
-      c .before .before .before .before .before .before .board-at .ensures,
+      c .before .before .before .kept-of .ensures (c .before .before .before .before .before .before .before .before .args .s .now) v,
+      c .before .before .before .before .string-count-at .ensures,
     )))
