@@ -2,7 +2,7 @@
 use Prim.Native.Nat.{ℕ, _+_, _≤_, _<_}
 use native.Mathlib.Omega.{arith}
 use mathlib.Core.Path.{_≡_, refl, sym, _∙_}
-use mathlib.Core.Bool.{true, false}
+use mathlib.Core.Bool.{false}
 use mathlib.Core.List.{List}
 use lib.ListN.{getD, length}
 use lib.Bits.{bitAnd}
@@ -23,16 +23,14 @@ use Rattle.note.specs.Hop as note
 use Rattle.note.proofs.Stores.{has-clear}
 use Rattle.note.proofs.Strings.{masked}
 use Rattle.note.proofs.Filled.{pad-byte-to}
-use Rattle.beat.specs.declared.hop.BeatHop.{BeatHop}
 use Rattle.beat.specs.declared.hop.BeatHop.the-variants.{To, No}
-use Rattle.beat.specs.declared.head.Head.{Head}
 use Rattle.beat.specs.Head.{head, headOf, status, tuplet}
 use Rattle.beat.specs.Chord.{chordName, beatText}
 use Rattle.beat.specs.Effects.{beatEffects, noEffects}
 use Rattle.beat.specs.Mix.{mix, noMix}
 use Rattle.beat.specs.Tail.{tail}
 use Rattle.beat.specs.Beat.{BeatIs, beatNotes, beatBy, beat}
-use Rattle.beat.specs.Hop.{Unmarked, hopBeat, Hopped, Hops}
+use Rattle.beat.specs.Hop.{hopsBeat, Hopped, Hops}
 
 -- ---- the flags
 clear : (flags m : ℕ) → bitAnd 0x7E m ≡ m → bitAnd flags 0x7E ≡ 0 → bitAnd flags m ≡ 0
@@ -98,9 +96,10 @@ module _ {s : List ℕ} {past next : ℕ} {o : Ottava} (v at : ℕ) (room : at +
       (pad.and-on _ (no-chord _ h v) (pad.and-on _ (no-text _ h) (pad.and-on _ (without-effects _ h v) (pad.and-on _ (no-mix _ h v) notes-on))))
 
   hopped : Hopped v s (At at) next (getD s (at + 2) 0)
-  unfolding headOf has
+  unfolding headOf has hopsBeat
   hopped =
       record {
+        told = rw (le-leb (at + 41) (length s) room, eq-eqb (bitAnd (getD s at 0) 0x7E) 0 h, g .told);
         over = plainBeat;
         reads = beat-on .within (omega arith);
         unmarked = record { same = refl; kept = refl; text = refl; notes = g .unmarked; seven = g .seven };
@@ -118,22 +117,22 @@ module _ {s : List ℕ} {past next : ℕ} {o : Ottava} (v at : ℕ) (room : at +
 
 -- ---- no hop
 module _ {s : List ℕ} {from : Place} (v : ℕ) where
-  not-by : hopBeat s v from ≡ N.No → Hops v s from No
+  not-by : hopsBeat s v from ≡ false → Hops v s from No
   not-by e = record { to = λ m strings q. clash (cc); not = λ q. e }
 
   pub hop-stopped : {x : Stop} → from ≡ Stopped x → Hops v s from No
-  unfolding hopBeat
+  unfolding hopsBeat
   hop-stopped e = not-by (rw e)
 
   module _ {at : ℕ} (e : from ≡ At at) where
     pub hop-short : length s < at + 41 → Hops v s from No
-    unfolding hopBeat
+    unfolding hopsBeat
     hop-short h = not-by (rw (e, lt-leb (at + 41) (length s) h))
 
     pub hop-marked : at + 41 ≤ length s → (bitAnd (getD s at 0) 0x7E ≡ 0 → ⊥) → Hops v s from No
-    unfolding hopBeat
+    unfolding hopsBeat
     hop-marked h f = not-by (rw (e, le-leb (at + 41) (length s) h, ne-eqb (bitAnd (getD s at 0) 0x7E) 0 f))
 
     pub hop-notes-not : {r : Hop} → at + 41 ≤ length s → bitAnd (getD s at 0) 0x7E ≡ 0 → note.Hops v (getD s (at + 2) 0) s (at + 3) r → r ≡ N.No → Hops v s from No
-    unfolding hopBeat
-    hop-notes-not h f g q = not-by (rw (e, le-leb (at + 41) (length s) h, eq-eqb (bitAnd (getD s at 0) 0x7E) 0 f) (g .not q))
+    unfolding hopsBeat
+    hop-notes-not h f g q = not-by (rw (e, le-leb (at + 41) (length s) h, eq-eqb (bitAnd (getD s at 0) 0x7E) 0 f, g .not q))

@@ -1,7 +1,6 @@
 -- A beat of plain notes is counted: a row, and a member for each string that sounds. Assumes nothing.
 use Prim.Native.Nat.{ℕ, zero, suc, _+_, _≤_, _<_}
 use native.Mathlib.Omega.{arith}
-use native.Mathlib.Numerals.{add-one}
 use mathlib.Core.Path.{_≡_, refl, sym, ap, _∙_}
 use mathlib.Core.List.{List, [], _∷_}
 use mathlib.Core.Bool.{Bool, true, false, not, _&&_}
@@ -11,14 +10,13 @@ use lib.ListN.{length}
 use borrow.Author.Tests.{eqb-true}
 use Rattle.format.specs.Text.{Text, pick, noText}
 use Rattle.format.specs.Prog.{has}
-use Rattle.format.proofs.Run.{clash}
 use Rattle.note.specs.declared.marks.NoteEffects.{NoteEffects}
 use Rattle.note.specs.Marks.{noMarks}
 use Rattle.note.specs.Note.{NoteIs}
 use Rattle.note.specs.Notes.{stringBit}
 use Rattle.note.specs.Points.{BendPoint}
 use Rattle.note.specs.Hop.{AllUnmarked, countFrom, stringCount}
-use Rattle.note.proofs.Strings.{all, all-at}
+use Rattle.note.proofs.Strings.{all-at}
 use Rattle.beat.specs.Beat.{BeatIs}
 use Rattle.beat.specs.Hop.{Unmarked}
 use Rattle.score.specs.declared.Kept.{Kept}

@@ -7,12 +7,11 @@ use mathlib.Core.Bool.{Bool, true, false, not}
 use lib.ListN.{getD, set, length, length-set}
 use lib.Bits.{bitAnd, and-le-r}
 use lib.Dec.{eqb, leb, ltb}
-use borrow.Author.Tests.{eqb-true, leb-true, ltb-true, le-leb, lt-leb, lt-ltb, eq-eqb, ne-eqb}
-use Rattle.format.specs.declared.Place.the-variants.{At}
+use borrow.Author.Tests.{eqb-true, leb-true, le-leb, lt-leb, lt-ltb, eq-eqb, ne-eqb}
 use Rattle.format.specs.Text.{pick}
 use Rattle.format.specs.Prog.{Prog, ret, bind, turns, whenBits, has}
 use Rattle.format.specs.Fields.{u8}
-use Rattle.format.specs.Padded.{Padded, Arrives}
+use Rattle.format.specs.Padded.{Padded}
 use Rattle.format.proofs.Run.{clash}
 use Rattle.format.proofs.Padded as pad
 use Rattle.curve.specs.declared.level.Level.the-variants.{Absent, Given}
@@ -24,7 +23,7 @@ use Rattle.note.specs.Note.{NoteIs, dynamic, hands, noHands, readOf, not
 use Rattle.note.specs.Notes.{stringBit, stringTurn, notes, noNotes}
 use Rattle.note.specs.Hop.{Unmarked, AllUnmarked, sizeWithout, plainSize, hopNote, hopTimes, countFrom, stringCount, hopNotes, Hopped, Hops}
 use Rattle.note.proofs.Stores.{has-set, has-clear}
-use Rattle.note.proofs.Strings.{all, all-at, given}
+use Rattle.note.proofs.Strings.{all-at, given}
 use Rattle.note.proofs.Straight.{Straight, straight-flags, fretted-read, no-duration, turned-read}
 
 -- ---- a plain note
@@ -238,6 +237,7 @@ hopped s from v strings next = by (leb (from + 35) (length s)) refl
         let near : next ≤ from + 35 = omega (arith, times-near s v (stringCount strings) from next e, seven-most strings) in
         let r = hop-from s v strings next 7 0 from noNotes none-marked e in
         record {
+          told = rw q e;
           over = r .over;
           reads =
               record {

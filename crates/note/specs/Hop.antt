@@ -2,6 +2,7 @@
 -- is kept. Assumes nothing.
 use Prim.Native.Nat.{ℕ, zero, suc, _+_, _≤_}
 use mathlib.Core.Path.{_≡_}
+use mathlib.Core.Bool.{Bool, true, false}
 use mathlib.Core.List.{List, [], _∷_}
 use lib.ListN.{getD, length}
 use lib.Bits.{bitAnd}
@@ -54,8 +55,13 @@ stringCount mask = countFrom 7 0 mask
 unfoldable pub hopNotes : List ℕ → (from v strings : ℕ) → Hop
 hopNotes s from v strings = pick (leb (from + 35) (length s)) (hopTimes s v (stringCount strings) (To from)) No
 
+abbrev pub isHop : Hop → Bool
+isHop (To next) = true
+isHop No = false
+
 -- ---- what it hops over
 pub record Hopped (v strings : ℕ) (s : List ℕ) (from next : ℕ) : Type 0 where
+  pub told : hopNotes s from v strings ≡ To next
   pub over : List NoteIs
   pub reads : Arrives (notes v strings) s from over (At next)
   pub near : next ≤ from + 35

@@ -1,4 +1,5 @@
 // The walk over bars, tracks, voices and beats.
+use beat::hop::BeatHop;
 use beat::places::Beat;
 use bin::Number;
 use draft::chord::Chord;
@@ -13,8 +14,9 @@ ghost use Rattle.format.specs.Prog.{turns};
 ghost use Rattle.score.specs.File as file;
 ghost use Rattle.words.specs.Meant.{walkOf};
 ghost use mathlib.Core.Path.{_≡_};
+ghost use mathlib.Core.Bool.{false};
 ghost use Rattle.enter.specs.Steps.{tallyOf};
-ghost use Rattle.walk.specs.Entering.{entering, beatStep};
+ghost use Rattle.walk.specs.Entering.{entering, beatStep, countStep, countSteps, Counts};
 
 // What is counted so far, and where reading goes on.
 pub struct Walked {
@@ -59,7 +61,6 @@ fn one_beat(
     s: &[u8],
     from: Place,
     v: u32,
-    counting: bool,
     place: model::Place,
     progress: Progress,
     bars: &mut [u32],
@@ -73,16 +74,12 @@ fn one_beat(
     notes: &mut Notes,
     chord: &mut Chord,
 ) -> Step
-    ensures { λ r. ⌜ Reaches (beatStep counting (now (s .entry)) v (place .bar) (place .track) (place .voice) (walkOf (now (bars .entry)) (now (rows .entry)) (now (members .entry)) (now (points .entry)) (now (texts .entry)) (now (parts .entry)) (tallyOf progress (now (lost .entry))))) (now (s .entry)) from (walkOf (now (bars .exit)) (now (rows .exit)) (now (members .exit)) (now (points .exit)) (now (texts .exit)) (now (parts .exit)) (tallyOf (r .progress) (now (lost .exit)))) (r .next) ⌝ }
+    ensures { λ r. ⌜ Reaches (beatStep false (now (s .entry)) v (place .bar) (place .track) (place .voice) (walkOf (now (bars .entry)) (now (rows .entry)) (now (members .entry)) (now (points .entry)) (now (texts .entry)) (now (parts .entry)) (tallyOf progress (now (lost .entry))))) (now (s .entry)) from (walkOf (now (bars .exit)) (now (rows .exit)) (now (members .exit)) (now (points .exit)) (now (texts .exit)) (now (parts .exit)) (tallyOf (r .progress) (now (lost .exit)))) (r .next) ⌝ }
 {
     let next = beat::read_beat(s, from, v, b, notes);
     let Place::At(_) = next else {
         return Step { progress, next };
     };
-    if counting {
-        let progress = enter::count::count_beat(s, place.track as usize, b, notes, progress, parts);
-        return Step { progress, next };
-    }
     let progress = enter::add_beat(
         s,
         v,
@@ -106,7 +103,6 @@ fn beats(
     s: &[u8],
     from: Place,
     v: u32,
-    counting: bool,
     n: u32,
     place: model::Place,
     progress: Progress,
@@ -121,7 +117,7 @@ fn beats(
     notes: &mut Notes,
     chord: &mut Chord,
 ) -> Step
-    ensures { λ r. ⌜ Reaches (turns n 0 (file.oneBeat (entering counting (now (s .entry))) v (place .bar) (place .track) (place .voice)) (walkOf (now (bars .entry)) (now (rows .entry)) (now (members .entry)) (now (points .entry)) (now (texts .entry)) (now (parts .entry)) (tallyOf progress (now (lost .entry))))) (now (s .entry)) from (walkOf (now (bars .exit)) (now (rows .exit)) (now (members .exit)) (now (points .exit)) (now (texts .exit)) (now (parts .exit)) (tallyOf (r .progress) (now (lost .exit)))) (r .next) ⌝ }
+    ensures { λ r. ⌜ Reaches (turns n 0 (file.oneBeat (entering false (now (s .entry))) v (place .bar) (place .track) (place .voice)) (walkOf (now (bars .entry)) (now (rows .entry)) (now (members .entry)) (now (points .entry)) (now (texts .entry)) (now (parts .entry)) (tallyOf progress (now (lost .entry))))) (now (s .entry)) from (walkOf (now (bars .exit)) (now (rows .exit)) (now (members .exit)) (now (points .exit)) (now (texts .exit)) (now (parts .exit)) (tallyOf (r .progress) (now (lost .exit)))) (r .next) ⌝ }
 {
     let mut progress = progress;
     let mut at = from;
@@ -131,7 +127,6 @@ fn beats(
             s,
             at,
             v,
-            counting,
             place,
             progress,
             bars,
@@ -147,6 +142,69 @@ fn beats(
         );
         progress = walked.progress;
         at = walked.next;
+        let Place::At(_) = at else {
+            return Step { progress, next: at };
+        };
+        i += 1;
+    }
+    Step { progress, next: at }
+}
+
+// A beat that is read to be counted.
+fn count_read(
+    s: &[u8],
+    from: Place,
+    v: u32,
+    track: usize,
+    progress: Progress,
+    parts: &[u32],
+    b: &mut Beat,
+    notes: &mut Notes,
+) -> Step
+    ensures { λ r. ⌜ Counts (countStep (now (s .entry)) v track) (now (s .entry)) (now (parts .entry)) from progress (r .progress) (r .next) ⌝ }
+{
+    let past = beat::read_beat(s, from, v, b, notes);
+    let Place::At(_) = past else {
+        return Step {
+            progress,
+            next: past,
+        };
+    };
+    let progress = enter::count::count_beat(s, track, b, notes, progress, parts);
+    Step {
+        progress,
+        next: past,
+    }
+}
+
+// Apart from `beats`: a pass that counts goes over most of the bytes in these few lines. A plain beat is not even read. The two ways
+// meet here and not in a function of one beat, which would hand on what is counted once more.
+fn count_beats(
+    s: &[u8],
+    from: Place,
+    v: u32,
+    n: u32,
+    track: usize,
+    progress: Progress,
+    parts: &[u32],
+    b: &mut Beat,
+    notes: &mut Notes,
+) -> Step
+    ensures { λ r. ⌜ Counts (countSteps n (now (s .entry)) v track) (now (s .entry)) (now (parts .entry)) from progress (r .progress) (r .next) ⌝ }
+{
+    let mut progress = progress;
+    let mut at = from;
+    let mut i = 0;
+    while i < n {
+        let hop = beat::hop::hop_beat(s, at, v);
+        if let BeatHop::To(next, strings) = hop {
+            progress = enter::count::count_plain(strings, track, progress, parts);
+            at = Place::At(next);
+        } else {
+            let counted = count_read(s, at, v, track, progress, parts, b, notes);
+            progress = counted.progress;
+            at = counted.next;
+        }
         let Place::At(_) = at else {
             return Step { progress, next: at };
         };
@@ -177,11 +235,14 @@ fn voice(
 {
     let count = bin::count_at(s, from, Counted::Beats);
     let at = count.next;
+    if counting {
+        let track = place.track as usize;
+        return count_beats(s, at, v, count.value, track, progress, parts, b, notes);
+    }
     beats(
         s,
         at,
         v,
-        counting,
         count.value,
         place,
         progress,

@@ -1,8 +1,7 @@
--- A beat is read, then counted or added. Assumes nothing.
+-- A beat is read, then added. Assumes nothing.
 use borrow.Author.Needs.{needs}
 use Rattle.format.proofs.Rules.{then, still}
 use Rattle.words.proofs.Places.{done-as}
-use Rattle.walk.proofs.Walks.{counted}
 use Rattle.walk.proofs.one_beat.Statement.{statement}
 use Rattle.walk.proofs.one_beat.Tie as tie
 
@@ -14,10 +13,6 @@ one-beat-spec =
     (λ c. search needs)
     (λ c. search needs)
     (λ c. then _ (c .before .before .read-beat .ensures) (still (c .enum-told2 .given .1)))
-    (λ c. search needs)
-    (λ c κs. search needs)
-    (λ c. search needs)
-    (λ c. then _ (c .before .before .before .before .before .before .before .before .read-beat .ensures) (done-as (rw (c .before .before .before .before .before .if1 .taken) (counted _ _ _ (c .count-beat .ensures (c .before .before .before .before .before .before .before .before .before .before .before .before .before .before .before .before .before .before .args .v) _)))))
     (λ c κs. search needs)
     (λ c. c .before .before .before .before .before .before .before .before .before .before .before .before .add-beat .kept .1 .1 .1 .1 .1 .1 .1 .1 .0)
     (λ c. c .before .before .before .before .before .before .before .before .before .before .before .before .add-beat .kept .1 .1 .1 .1 .1 .1 .1 .1 .1 .0)
@@ -25,4 +20,4 @@ one-beat-spec =
     (λ c. c .before .before .before .before .before .before .before .before .before .before .before .before .add-beat .kept .1 .1 .1 .1 .1 .1 .1 .1 .1 .1 .1 .0)
     (λ c. c .before .before .before .before .before .before .before .before .before .before .before .before .add-beat .kept .1 .1 .1 .1 .1 .1 .1 .1 .1 .1 .1 .1 .0)
     (λ c. c .before .before .before .before .before .before .before .before .before .before .before .before .add-beat .kept .1 .1 .1 .1 .1 .1 .1 .1 .1 .1 .1 .1 .1 .0)
-    (λ c. then _ (c .before .before .before .before .before .before .before .before .before .before .before .before .before .before .before .before .before .before .before .before .before .before .before .before .before .before .read-beat .ensures) (done-as (rw (c .before .before .before .before .before .before .before .before .before .before .before .before .before .before .before .before .before .before .before .before .before .before .before .if1 .left) (c .before .before .before .before .before .before .before .before .before .before .before .before .add-beat .ensures)))))
+    (λ c. then _ (c .before .before .before .before .before .before .before .before .before .before .before .before .before .before .before .before .before .before .before .before .before .before .before .before .before .read-beat .ensures) (done-as (c .before .before .before .before .before .before .before .before .before .before .before .before .add-beat .ensures))))
