@@ -1,4 +1,5 @@
 pub mod Words
+pub mod Voices
 pub mod Reports
 pub mod Lent
 pub mod Meant

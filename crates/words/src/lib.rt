@@ -7,6 +7,8 @@ ghost use Rattle.score.specs.Losses.{reportIf};
 ghost use Rattle.words.specs.Words.{wordPlus};
 ghost use Rattle.words.specs.Reports.{reports};
 
+pub mod voice; // a voice as words that are lent
+
 const LARGEST: u32 = 0xFFFF_FFFF;
 
 // A sum, as far as a word goes.

@@ -1,7 +1,7 @@
 -- The words of an ottava, case by case. Assumes nothing.
 use borrow.Author.Needs.{needs}
-use Rattle.tracks.proofs.parts.run_words.Statement.{statement}
-use Rattle.tracks.proofs.parts.run_words.Tie as tie
+use Rattle.words.proofs.voice.run_words.Statement.{statement}
+use Rattle.words.proofs.voice.run_words.Tie as tie
 
 pub run-words-spec : {M : Type 1} → statement M
 run-words-spec =
