@@ -3,12 +3,10 @@
 // nothing else: `with_fret` makes the change, and whoever has no memory lent to it calls `remembered`.
 ghost use mathlib.Core.Path.{_≡_};
 ghost use Rattle.memory.specs.Change.{changed};
-use score::LastFret;
-use score::Remembered;
 
-// By string, in file order.
+// By string, in file order, each as its word in a voice.
 pub struct VoiceState {
-    pub frets: [Remembered; 7],
+    pub frets: [u32; 7],
 }
 
 // By value. A string past the seventh is none that is remembered: the memory stays as it was.
@@ -17,9 +15,7 @@ pub fn with_fret(state: VoiceState, string: usize, fret: u8) -> VoiceState
 {
     if string < 7 {
         let mut frets = state.frets;
-        frets[string] = Remembered {
-            fret: LastFret::Fret(fret),
-        };
+        frets[string] = fret as u32 + 1;
         VoiceState { frets: frets }
     } else {
         state
