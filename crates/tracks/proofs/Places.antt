@@ -1,23 +1,19 @@
 -- Where the words of a part stand, and what stands there. Assumes nothing.
-use Prim.Native.Nat.{ℕ, zero, suc, _+_, _-_, _%_, min}
-use mathlib.Core.Path.{_≡_, refl, ap, sym, _∙_}
-use mathlib.Core.List.{List, [], _∷_, _++_, map, append-assoc, append-nil}
+use Prim.Native.Nat.{ℕ, zero, suc, _+_, _-_, min}
+use mathlib.Core.Path.{_≡_, refl, sym, _∙_}
+use mathlib.Core.List.{List, [], _∷_, _++_}
 use native.Mathlib.Omega.{arith}
 use native.Mathlib.Decide.{decLe}
 use native.Mathlib.Nat.{add-zero, min-eq-left, min-eq-right}
-use lib.ListN.{length, getD, set, take, drop, length-append, length-drop, drop-of-length-le}
+use lib.ListN.{length, getD, set, take, drop, replicate, length-append, length-drop, drop-of-length-le}
 use lib.Seq.{sets, getD-drop, getD-take, take-all}
 use Rattle.tables.specs.Laws.{sets-append}
-use Rattle.score.specs.declared.Hammer.{Hammer}
-use Rattle.score.specs.declared.Hammer.the-variants.{NoHammer, Waits}
-use Rattle.score.specs.declared.LastFret.the-variants.{Fret}
-use Rattle.score.specs.declared.OttavaRun.{OttavaRun}
-use Rattle.score.specs.declared.OttavaRun.the-variants.{NoRun, Over}
-use Rattle.score.specs.declared.Voice.{Voice}
 use Rattle.score.specs.Page.{noVoice, boardOf, partOf}
 use Rattle.curve.specs.Level.{forte}
 use Rattle.track.specs.declared.Track.{Track}
-use Rattle.words.specs.Words.{voicePlace, fretWord, fretOf, hammerWords, runWords, voiceWords, boardWords, partWords, boardFrom, voiceFrom}
+use Rattle.model.specs.Kinds.{flagOf}
+use Rattle.words.specs.Words.{voicePlace, fretOf, hammerOf, runOf, voiceWords, boardWords, partWords, boardFrom, voiceFrom}
+use Rattle.words.specs.Voices.{voiceIn}
 
 -- from a place that is cut at the end, the same words are left
 pub left-from : (t : List ℕ) (m at : ℕ) → at ≡ min m (length t) → take (length t - at) (drop at t) ≡ drop m t
@@ -31,11 +27,6 @@ left-from t m at e = take-all (length t - at) (drop at t) (simp length-drop (ome
 pub second-voice : (voice : ℕ) → (voice ≡ 0 → ⊥) → 27 ≡ voicePlace voice
 second-voice zero h = absurd (h refl)
 second-voice (suc v) h = refl
-
-pub fret-there : (word : ℕ) → (word ≡ 0 → ⊥) → fretOf word ≡ Fret ((word - 1) % 256)
-unfolding fretOf
-fret-there zero h = absurd (h refl)
-fret-there (suc f) h = let e : suc f - 1 ≡ f = omega arith in rw e
 
 -- a board by the words from its place on, of which eleven are enough
 pub board-from : (at : ℕ) (t : List ℕ) → boardFrom 0 (drop at t) ≡ boardFrom at t
@@ -101,32 +92,12 @@ seven d (a ∷ b ∷ c ∷ e ∷ f ∷ g ∷ []) more h = absurd (omega arith)
 seven d (a ∷ b ∷ c ∷ e ∷ f ∷ g ∷ i ∷ []) more h = refl
 seven d (a ∷ b ∷ c ∷ e ∷ f ∷ g ∷ i ∷ j ∷ l) more h = absurd (omega arith)
 
-pub each-of-seven : {A B : Type 0} (f : A → B) (d : A) (l : List A) → length l ≡ 7
-    → f (getD l 0 d) ∷ f (getD l 1 d) ∷ f (getD l 2 d) ∷ f (getD l 3 d) ∷ f (getD l 4 d) ∷ f (getD l 5 d) ∷ f (getD l 6 d) ∷ []
-    ≡ map f l
-each-of-seven f d l h = ap (map f) (seven d l [] h ∙ append-nil l)
-
-hammer-shown : (x : Hammer) (more : List ℕ)
-    → getD (hammerWords x) 0 0 ∷ getD (hammerWords x) 1 0 ∷ getD (hammerWords x) 2 0 ∷ more ≡ hammerWords x ++ more
-hammer-shown NoHammer more = refl
-hammer-shown (Waits n key) more = refl
-
-run-shown : (x : OttavaRun) → getD (runWords x) 0 0 ∷ getD (runWords x) 1 0 ∷ getD (runWords x) 2 0 ∷ [] ≡ runWords x
-run-shown NoRun = refl
-run-shown (Over n kind) = refl
-
-module _ (v : Voice) (f h r : List ℕ) where
-  pub voice-shown : f ≡ map (λ x. fretWord (x .fret)) (v .frets) → h ≡ hammerWords (v .hammer) → r ≡ runWords (v .run)
-      → length f ≡ 7
-      → getD f 0 0 ∷ getD f 1 0 ∷ getD f 2 0 ∷ getD f 3 0 ∷ getD f 4 0 ∷ getD f 5 0 ∷ getD f 6 0
-      ∷ getD h 0 0 ∷ getD h 1 0 ∷ getD h 2 0 ∷ v .last .first ∷ v .last .count ∷ getD r 0 0 ∷ getD r 1 0 ∷ getD r 2 0 ∷ []
-      ≡ voiceWords v
-  unfolding voiceWords
-  voice-shown ef eh er e =
-      rw (seven 0 f _ e, ef, eh, er, hammer-shown (v .hammer) _, run-shown (v .run))
-      (simp append-assoc)
-
 -- ---- a part stored piece by piece
+
+-- words that are all 0 say that there is nothing
+pub no-words : voiceIn (replicate 15 0) ≡ noVoice
+unfolding voiceFrom fretOf hammerOf runOf flagOf
+no-words = refl
 
 pub part-shown : (track : Track) (t : List ℕ) (at : ℕ) → length (track .strings .tunings) ≡ 7
     → sets (sets (set (sets t at (boardWords (boardOf track))) (at + 11) forte) (at + 12) (voiceWords noVoice))

@@ -1,23 +1,19 @@
 // What is remembered of each track, in words of the reader's own: its fretboard, its running dynamic and its two
 // voices. A word that is missing is 0, and a store past the end does nothing.
 ghost use mathlib.Core.Path.{_≡_};
-ghost use mathlib.Core.List.{map};
 ghost use Prim.Native.Nat.{_+_, _*_, _%_, min};
 ghost use lib.ListN.{length, drop, getD, set};
 ghost use lib.Seq.{sets};
 ghost use Rattle.model.specs.Kinds.{flagOf};
 ghost use Rattle.score.specs.Page.{partOf};
-ghost use Rattle.words.specs.Words.{partStride, runningPlace, voicePlace, fretWord, fretFrom, hammerWords, hammerOf, runWords, runOf, voiceWords, voiceFrom, boardWords, boardFrom, partWords};
-use model::Span;
+ghost use Rattle.words.specs.Words.{partStride, runningPlace, voicePlace, voiceWords, voiceFrom, boardWords, boardFrom, partWords};
+ghost use Rattle.words.specs.Voices.{voiceIn};
 use model::kinds;
 use score::Fretboard;
-use score::Hammer;
-use score::LastFret;
-use score::OttavaRun;
-use score::Remembered;
-use score::Voice;
 use track::Strings;
 use track::Track;
+use words::voice;
+use words::voice::VoiceWords;
 
 pub const PART_WORDS: usize = 42;
 
@@ -36,15 +32,6 @@ const VOICE_WORDS: usize = 15;
 
 // A running dynamic starts at 6, forte.
 const FORTE: u8 = 6;
-
-const NO_VOICE: Voice = Voice {
-    frets: [Remembered {
-        fret: LastFret::NoFret,
-    }; 7],
-    hammer: Hammer::NoHammer,
-    last: Span { first: 0, count: 0 },
-    run: OttavaRun::NoRun,
-};
 
 // ---- places
 
@@ -184,104 +171,30 @@ pub fn put_running(parts: &mut [u32], track: usize, running: u8)
 
 // ---- voices
 
-fn fret_word(x: Remembered) -> u32
-    ensures { λ r. ⌜ r ≡ fretWord (x .fret) ⌝ }
-{
-    let fret = x.fret;
-    match fret {
-        LastFret::NoFret => 0,
-        LastFret::Fret(f) => kinds::byte_word(f) + 1,
-    }
-}
-
-fn fret_at(w: &[u32], k: usize) -> Remembered
-    ensures { λ r. ⌜ r ≡ fretFrom k (now (w .entry)) ⌝ }
-{
-    let word = tables::load(w, k);
-    if word == 0 {
-        return Remembered {
-            fret: LastFret::NoFret,
-        };
-    }
-    Remembered {
-        fret: LastFret::Fret(kinds::byte_of(word - 1)),
-    }
-}
-
-fn hammer_words(x: Hammer) -> [u32; 3]
-    ensures { λ r. ⌜ r ≡ hammerWords x ⌝ }
-{
-    match x {
-        Hammer::NoHammer => [0, 0, 0],
-        Hammer::Waits(row, key) => [1, row, kinds::byte_word(key)],
-    }
-}
-
-fn hammer_of(flag: u32, row: u32, key: u32) -> Hammer
-    ensures { λ r. ⌜ r ≡ hammerOf flag row key ⌝ }
-{
-    if kinds::flag_of(flag) {
-        return Hammer::Waits(row, kinds::byte_of(key));
-    }
-    Hammer::NoHammer
-}
-
-fn run_words(x: OttavaRun) -> [u32; 3]
-    ensures { λ r. ⌜ r ≡ runWords x ⌝ }
-{
-    match x {
-        OttavaRun::NoRun => [0, 0, 0],
-        OttavaRun::Over(row, kind) => [1, row, kinds::ottava_word(kind)],
-    }
-}
-
-fn run_of(flag: u32, row: u32, kind: u32) -> OttavaRun
-    ensures { λ r. ⌜ r ≡ runOf flag row kind ⌝ }
-{
-    if kinds::flag_of(flag) {
-        return OttavaRun::Over(row, kinds::ottava_of(kind));
-    }
-    OttavaRun::NoRun
-}
-
-fn frets_of(w: &[u32]) -> [Remembered; 7]
-    ensures { λ r. ⌜ r ≡ voiceFrom 0 (now (w .entry)) .frets ⌝ }
+fn voice_of(w: &[u32]) -> VoiceWords
+    ensures { λ r. ⌜ voiceIn r ≡ voiceIn (now (w .entry)) ⌝ }
 {
     [
-        fret_at(w, 0),
-        fret_at(w, 1),
-        fret_at(w, 2),
-        fret_at(w, 3),
-        fret_at(w, 4),
-        fret_at(w, 5),
-        fret_at(w, 6),
-    ]
-}
-
-fn voice_of(w: &[u32]) -> Voice
-    ensures { λ r. ⌜ r ≡ voiceFrom 0 (now (w .entry)) ⌝ }
-{
-    let frets = frets_of(w);
-    let hammer = hammer_of(tables::load(w, 7), tables::load(w, 8), tables::load(w, 9));
-    let last = Span {
-        first: tables::load(w, 10),
-        count: tables::load(w, 11),
-    };
-    let run = run_of(
+        tables::load(w, 0),
+        tables::load(w, 1),
+        tables::load(w, 2),
+        tables::load(w, 3),
+        tables::load(w, 4),
+        tables::load(w, 5),
+        tables::load(w, 6),
+        tables::load(w, 7),
+        tables::load(w, 8),
+        tables::load(w, 9),
+        tables::load(w, 10),
+        tables::load(w, 11),
         tables::load(w, 12),
         tables::load(w, 13),
         tables::load(w, 14),
-    );
-    Voice {
-        frets,
-        hammer,
-        last,
-        run,
-    }
+    ]
 }
 
-pub fn voice_at(parts: &[u32], track: usize, voice: usize) -> Voice
-    ensures { λ r. ⌜ r ≡ voiceFrom (track * partStride + voicePlace voice) (now (parts .entry)) ⌝ }
+pub fn voice_at(parts: &[u32], track: usize, voice: usize) -> VoiceWords
+    ensures { λ r. ⌜ voiceIn r ≡ voiceFrom (track * partStride + voicePlace voice) (now (parts .entry)) ⌝ }
 {
     let w = words_from(parts, track, voice_place(voice));
     if VOICE_WORDS <= w.len() {
@@ -290,53 +203,10 @@ pub fn voice_at(parts: &[u32], track: usize, voice: usize) -> Voice
     voice_of(w)
 }
 
-fn fret_words(x: [Remembered; 7]) -> [u32; 7]
-    ensures { λ r. ⌜ r ≡ map (λ y. fretWord (y .fret)) x ⌝ }
+pub fn put_voice(parts: &mut [u32], track: usize, voice: usize, w: &VoiceWords)
+    ensures { λ _. ⌜ now (parts .exit) ≡ sets (now (parts .entry)) (track * partStride + voicePlace voice) (voiceWords (voiceIn (now (w .entry)))) ⌝ }
 {
-    [
-        fret_word(x[0]),
-        fret_word(x[1]),
-        fret_word(x[2]),
-        fret_word(x[3]),
-        fret_word(x[4]),
-        fret_word(x[5]),
-        fret_word(x[6]),
-    ]
-}
-
-fn voice_words(x: Voice) -> [u32; 15]
-    ensures { λ r. ⌜ r ≡ voiceWords x ⌝ }
-{
-    let remembered = x.frets;
-    let hammer = x.hammer;
-    let last = x.last;
-    let run = x.run;
-    let frets = fret_words(remembered);
-    let waits = hammer_words(hammer);
-    let over = run_words(run);
-    [
-        frets[0],
-        frets[1],
-        frets[2],
-        frets[3],
-        frets[4],
-        frets[5],
-        frets[6],
-        waits[0],
-        waits[1],
-        waits[2],
-        last.first,
-        last.count,
-        over[0],
-        over[1],
-        over[2],
-    ]
-}
-
-pub fn put_voice(parts: &mut [u32], track: usize, voice: usize, x: Voice)
-    ensures { λ _. ⌜ now (parts .exit) ≡ sets (now (parts .entry)) (track * partStride + voicePlace voice) (voiceWords x) ⌝ }
-{
-    let words = voice_words(x);
+    let words = voice::kept_words(w);
     let at = place_of(parts, track, voice_place(voice));
     tables::store_words(parts, at, &words);
 }
@@ -354,6 +224,7 @@ pub fn add_part(parts: &mut [u32], number: usize, track: Track)
     };
     put_board(parts, number, board);
     put_running(parts, number, FORTE);
-    put_voice(parts, number, 0, NO_VOICE);
-    put_voice(parts, number, 1, NO_VOICE);
+    let none = voice::NO_VOICE;
+    put_voice(parts, number, 0, &none);
+    put_voice(parts, number, 1, &none);
 }

@@ -15,4 +15,4 @@ put-voice-spec =
     (λ c. search needs)
     (λ c κs. search needs)
     (λ c. search needs)
-    (λ c. c .before .before .store-words .ensures ∙ sets-start (c .before .before .before .before .before .before .before .before .voice-words .result) (c .before .before .before .before .before .before .before .before .before .before .args .parts .now) _ _ (c .before .before .before .before .before .place-of .ensures) ∙ rw (c .before .before .before .before .before .before .before .before .voice-words .ensures, c .before .before .before .before .before .before .voice-place .ensures)))
+    (λ c. c .before .before .store-words .ensures ∙ sets-start (c .before .before .before .before .before .before .before .before .kept-words .result) (c .before .before .before .before .before .before .before .before .before .before .args .parts .now) _ _ (c .before .before .before .before .before .place-of .ensures) ∙ rw (c .before .before .before .before .before .before .before .before .kept-words .ensures, c .before .before .before .before .before .before .voice-place .ensures)))

@@ -1,5 +1,5 @@
 -- By the words from its place on. Assumes nothing.
-use mathlib.Core.Path.{sym}
+use mathlib.Core.Path.{sym, _∙_}
 use lib.Seq.{length-take-le}
 use Rattle.tracks.proofs.Places.{voice-from, voice-taken}
 use borrow.Author.Needs.{needs}
@@ -14,6 +14,6 @@ voice-at-spec =
     (λ c κs. search needs)
     (λ c. sym (length-take-le 15 (c .before .before .words-from .result .now) (c .before .if1 .taken)))
     (λ c κs. search needs)
-    (λ c. rw (c .voice-of .ensures, voice-taken, c .before .before .before .words-from .ensures, c .before .before .before .before .voice-place .ensures) (voice-from _ _))
+    (λ c. c .voice-of .ensures ∙ rw (voice-taken, c .before .before .before .words-from .ensures, c .before .before .before .before .voice-place .ensures) (voice-from _ _))
     (λ c κs. search needs)
-    (λ c. rw (c .voice-of2 .ensures, c .before .before .words-from .ensures, c .before .before .before .voice-place .ensures) (voice-from _ _)))
+    (λ c. c .voice-of2 .ensures ∙ rw (c .before .before .words-from .ensures, c .before .before .before .voice-place .ensures) (voice-from _ _)))
