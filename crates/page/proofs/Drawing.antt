@@ -23,6 +23,7 @@ use Rattle.score.specs.Page.{firstKey, lowerFirst, pulls, spanOf, hammerAfter, 
 use Rattle.draft.specs.declared.Draft.{Draft}
 use Rattle.draft.specs.Meant.{drawn}
 use Rattle.words.specs.Words.{words}
+use Rattle.words.specs.Voices.{withHammer, withLast, withRun}
 use Rattle.page.specs.declared.members.Company.{Company}
 use Rattle.page.specs.Entry.{Sums, undrawn, voiceAfter}
 
@@ -62,11 +63,14 @@ module _ (ms : List Member) (ps : List Point) (d : Draft) where
       rw (e, ew, em ∙ same-marks run, er ∙ same-turn run _, eh)
 
   pub voice-kept : (company : Company) (kept : Kept) (voice : Voice) {own last : Span} {hammer : Hammer} {run : OttavaRun}
-      → Sums ms company
+      {v₁ v₂ v₃ : Voice} → Sums ms company
       → own ≡ spanOf (kept .members) (company .count)
       → last ≡ lastAfter (d .kind) own (voice .last)
-      → hammer ≡ hammerAfter (kept .rows) (drawn ms ps d)
       → run ≡ runAfter (kept .rows) (undrawn d) (voice .run)
-      → record { frets = voice .frets; hammer = hammer; last = last; run = run } ≡ voiceAfter (drawn ms ps d) kept voice
-  voice-kept company kept voice sums eo el eh er =
-      rw (sums .count, er ∙ same-run (kept .rows) (voice .run), eh, el, eo)
+      → hammer ≡ hammerAfter (kept .rows) (drawn ms ps d)
+      → v₁ ≡ withLast voice last
+      → v₂ ≡ withRun v₁ run
+      → v₃ ≡ withHammer v₂ hammer
+      → v₃ ≡ voiceAfter (drawn ms ps d) kept voice
+  voice-kept company kept voice sums eo el er eh e₁ e₂ e₃ =
+      rw (e₃, e₂, e₁, sums .count, er ∙ same-run (kept .rows) (voice .run), eh, el, eo)

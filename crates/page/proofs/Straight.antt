@@ -34,6 +34,7 @@ use Rattle.score.specs.Page.{spanOf, fingered, dynamicAt, rowEntry, pulls, runA
 use Rattle.score.specs.Rows.{RowIs, headOf}
 use Rattle.words.specs.Words.{LARGEST, wordPlus, words}
 use Rattle.words.specs.Meant.{rowingOf}
+use Rattle.words.specs.Voices.{withHammer, withLast, withRun}
 use Rattle.page.specs.declared.members.Company.{Company}
 use Rattle.page.specs.Entry.{Sums}
 use Rattle.page.specs.Plain.{plainRow, noMarks}
@@ -121,7 +122,8 @@ module _ (place : Place) (board : Fretboard) (flat : Bool) (mark : Level) (b : B
         ∙ ap (λ (l : List ℕ). sets l (kept .rows * rowStride) (rowWords (rowEntry (row xs) noMarks kept)))
         (et ∙ sym (hammer-turned s (voice .hammer) (row xs) rows) ∙ no-turn s (voice .run) xs _)
 
-    pub plain-kept : {company : Company} {own : Span} {run : OttavaRun} {t r n m : List ℕ} {k₁ k₂ k₃ : ℕ} → Sums (membersOf xs) company
+    pub plain-kept : {company : Company} {own : Span} {run : OttavaRun} {t r n m : List ℕ} {k₁ k₂ k₃ : ℕ} {v₁ v₂ v₃ : Voice}
+        → Sums (membersOf xs) company
         → t ≡ turnHammer (words []) (voice .hammer) (row xs) rows
         → r ≡ sets t (kept .rows * rowStride) (rowWords (rowEntry (row xs) noMarks kept))
         → n ≡ startTies (words []) (voice .last) (membersOf xs) members
@@ -131,15 +133,19 @@ module _ (place : Place) (board : Fretboard) (flat : Bool) (mark : Level) (b : B
         → k₂ ≡ wordPlus (kept .members) (company .count)
         → k₃ ≡ wordPlus (kept .points) 0
         → run ≡ runAfter (kept .rows) (row xs) (voice .run)
-        → rowingOf r m points (record { rows = k₁; members = k₂; points = k₃ })
-        (record { frets = voice .frets; hammer = NoHammer; last = own; run = run })
+        → v₁ ≡ withHammer voice NoHammer
+        → v₂ ≡ withLast v₁ own
+        → v₃ ≡ withRun v₂ run
+        → rowingOf r m points (record { rows = k₁; members = k₂; points = k₃ }) v₃
         ≡ keepRow (words s) (row xs) (rowingOf rows members points kept voice)
     unfolding keepRow plainRow
-    plain-kept {own = own} {m = m} {k₂ = k₂} sums et er en em eo e₁ e₂ e₃ eu =
+    plain-kept {own = own} {run = run} {m = m} {k₂ = k₂} {v₃ = v₃} sums et er en em eo e₁ e₂ e₃ eu eh el ev =
         let its-row = row-stored et er in
         let its-members : m ≡ keepRow (words s) (row xs) (rowingOf rows members points kept voice) .members = rw (em, en) (sym (members-kept s kept voice rows members points (row xs))) in
         let span : own ≡ spanOf (kept .members) (length (membersOf xs)) = rw (sums .count) eo in
         let more : k₂ ≡ wordPlus (kept .members) (length (membersOf xs)) = rw (sums .count) e₂ in
-        λ i.
+        let after : v₃ ≡ record { frets = voice .frets; hammer = NoHammer; last = own; run = run } = rw (ev, el, eh) in
+        ap (rowingOf _ _ _ _) after
+        ∙ (λ i.
         rowingOf (its-row i) (its-members i) points (record { rows = e₁ i; members = more i; points = e₃ i })
-        (record { frets = voice .frets; hammer = NoHammer; last = span i; run = eu i })
+        (record { frets = voice .frets; hammer = NoHammer; last = span i; run = eu i }))

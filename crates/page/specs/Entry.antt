@@ -10,13 +10,19 @@ use Rattle.model.specs.declared.Point.{Point}
 use Rattle.curve.specs.Bend.{curveHeight}
 use Rattle.score.specs.declared.Kept.{Kept}
 use Rattle.score.specs.declared.Voice.{Voice}
-use Rattle.score.specs.Page.{spanOf, textLeft, heightAt, dynamicAt, plainFinger, firstKey, hammerAfter, lastAfter, runAfter}
+use Rattle.score.specs.Page.{Rowing, spanOf, textLeft, heightAt, dynamicAt, plainFinger, firstKey, hammerAfter, lastAfter, runAfter}
 use Rattle.score.specs.Rows.{RowIs}
 use Rattle.draft.specs.declared.Draft.{Draft}
 use Rattle.draft.specs.Meant.{drawn}
 use Rattle.page.specs.declared.members.Company.{Company}
 use Rattle.page.specs.declared.points.Bent.{Bent}
-use Rattle.words.specs.Words.{wordPlus}
+use Rattle.words.specs.Words.{Words, wordPlus}
+use Rattle.words.specs.Meant.{rowingOf}
+use Rattle.words.specs.Voices.{voiceIn}
+
+-- the tables that a row is entered in, with what is kept and the words of its voice
+abbrev pub rowingIn : (rows members points : List ℕ) → Kept → (voice : List ℕ) → Rowing Words
+rowingIn rows members points kept voice = rowingOf rows members points kept (voiceIn voice)
 
 -- what a row holds of its members
 pub record Sums (members : List Member) (x : Company) : Type 0 where

@@ -16,8 +16,9 @@ use model::Span;
 use note::places::Notes;
 use score::Fretboard;
 use score::Kept;
-use score::Voice;
 use words::plus;
+use words::voice;
+use words::voice::VoiceWords;
 ghost use mathlib.Core.Path.{_≡_};
 ghost use mathlib.Core.List.{List};
 ghost use Prim.Native.Nat.{ℕ, _≤_, min};
@@ -31,14 +32,8 @@ ghost use Rattle.score.specs.Rows.{graceRows, beatRow, rowsOf};
 ghost use Rattle.draft.specs.Chord.{chordIn};
 ghost use Rattle.draft.specs.Meant.{drawn, draftIn};
 ghost use Rattle.words.specs.Words.{words};
-ghost use Rattle.words.specs.Meant.{rowingOf};
-ghost use Rattle.page.specs.Entry.{Sums, keptAfter, voiceAfter};
-
-// What is kept and what the voice remembers, once a row is entered.
-pub struct Rowed {
-    pub kept: Kept,
-    pub voice: Voice,
-}
+ghost use Rattle.words.specs.Voices.{voiceIn};
+ghost use Rattle.page.specs.Entry.{Sums, rowingIn, keptAfter, voiceAfter};
 
 fn kept_after(company: Company, bent: Bent, kept: Kept) -> Kept
     ensures { λ r. ⌜ r ≡ keptAfter company bent kept ⌝ }
@@ -60,23 +55,16 @@ fn last_after(kind: RowKind, own: Span, last: Span) -> Span
     }
 }
 
-fn voice_after(draft: Draft, company: Company, kept: Kept, voice: Voice) -> Voice
-    ensures { λ r. ⌜ ((ms : List Member) (ps : List Point) → Sums ms company → r ≡ voiceAfter (drawn ms ps draft) kept voice) ⌝ }
+fn turn_voice(draft: Draft, company: Company, kept: Kept, voice: &mut VoiceWords)
+    ensures { λ _. ⌜ ((ms : List Member) (ps : List Point) → Sums ms company → voiceIn (now (voice .exit)) ≡ voiceAfter (drawn ms ps draft) kept (voiceIn (now (voice .entry)))) ⌝ }
 {
-    let frets = voice.frets;
     let kind = draft.kind;
     let own = rows::span_of(kept.members, company.count);
-    let before = voice.last;
-    let last = last_after(kind, own, before);
-    let hammer = rows::hammer_after(kept.rows, draft, company);
-    let run_before = voice.run;
-    let run = rows::run_after(kept.rows, draft, run_before);
-    Voice {
-        frets,
-        hammer,
-        last,
-        run,
-    }
+    let last = last_after(kind, own, voice::last(voice));
+    let run = rows::run_after(kept.rows, draft, voice::run(voice));
+    voice::put_last(voice, last);
+    voice::put_run(voice, run);
+    voice::put_hammer(voice, rows::hammer_after(kept.rows, draft, company));
 }
 
 // A row with its curve, and what is remembered after it; its members are entered apart.
@@ -85,24 +73,21 @@ fn keep_row(
     draft: Draft,
     company: Company,
     kept: Kept,
-    voice: Voice,
+    voice: &mut VoiceWords,
     rows: &mut [u32],
     points: &mut [u32],
-) -> Rowed
+) -> Kept
     ensures { λ r. ⌜ ((ms : List Member) (members : List ℕ) → Sums ms company →
-        rowingOf (now (rows .exit)) (keepRow (words (now (s .entry))) (draftIn (now (s .entry)) ms draft) (rowingOf (now (rows .entry)) members (now (points .entry)) kept voice) .members) (now (points .exit)) (r .kept) (r .voice)
+        rowingIn (now (rows .exit)) (keepRow (words (now (s .entry))) (draftIn (now (s .entry)) ms draft) (rowingIn (now (rows .entry)) members (now (points .entry)) kept (now (voice .entry))) .members) (now (points .exit)) r (now (voice .exit))
         ≡ keepRow (words (now (s .entry))) (draftIn (now (s .entry)) ms draft)
-        (rowingOf (now (rows .entry)) members (now (points .entry)) kept voice)) ⌝ }
+        (rowingIn (now (rows .entry)) members (now (points .entry)) kept (now (voice .entry)))) ⌝ }
 {
     let bend = draft.bend;
     let bent = points::add_curve(s, points, kept.points, bend);
     rows::add_row(rows, draft, company, bent, kept, voice);
     let kept_now = kept_after(company, bent, kept);
-    let voice_now = voice_after(draft, company, kept, voice);
-    Rowed {
-        kept: kept_now,
-        voice: voice_now,
-    }
+    turn_voice(draft, company, kept, voice);
+    kept_now
 }
 
 // The row of a beat's graces, where there are any.
@@ -115,19 +100,19 @@ fn keep_graces(
     notes: &Notes,
     chord: &[u32],
     kept: Kept,
-    voice: Voice,
+    voice: &mut VoiceWords,
     rows: &mut [u32],
     members: &mut [u32],
     points: &mut [u32],
-) -> Rowed
+) -> Kept
     requires { ⌜ length (now chord) ≤ 7 ⌝ }
-    ensures { λ r. ⌜ rowingOf (now (rows .exit)) (now (members .exit)) (now (points .exit)) (r .kept) (r .voice)
+    ensures { λ r. ⌜ rowingIn (now (rows .exit)) (now (members .exit)) (now (points .exit)) r (now (voice .exit))
         ≡ keepRows (words (now (s .entry))) (graceRows place board flat (graces (chordIn (now (s .entry)) v (now (notes .entry)) (now (chord .entry)))))
-        (rowingOf (now (rows .entry)) (now (members .entry)) (now (points .entry)) kept voice) ⌝ }
+        (rowingIn (now (rows .entry)) (now (members .entry)) (now (points .entry)) kept (now (voice .entry))) ⌝ }
 {
     let x = graces_of(notes, chord);
     if !x.any {
-        return Rowed { kept, voice };
+        return kept;
     }
     let count = members::add_graces(members, kept.members, board, flat, notes, chord);
     let company = members::grace_company(notes, chord, count);
@@ -146,19 +131,18 @@ fn keep_own(
     notes: &Notes,
     chord: &[u32],
     kept: Kept,
-    voice: Voice,
+    voice: &mut VoiceWords,
     rows: &mut [u32],
     members: &mut [u32],
     points: &mut [u32],
-) -> Rowed
+) -> Kept
     requires { ⌜ length (now chord) ≤ 7 ⌝ }
-    ensures { λ r. ⌜ rowingOf (now (rows .exit)) (now (members .exit)) (now (points .exit)) (r .kept) (r .voice)
+    ensures { λ r. ⌜ rowingIn (now (rows .exit)) (now (members .exit)) (now (points .exit)) r (now (voice .exit))
         ≡ keepRow (words (now (s .entry))) (beatRow place board flat running (beatIn (now (s .entry)) v (now (b .entry)) (now (notes .entry)))
         (chordIn (now (s .entry)) v (now (notes .entry)) (now (chord .entry))))
-        (rowingOf (now (rows .entry)) (now (members .entry)) (now (points .entry)) kept voice) ⌝ }
+        (rowingIn (now (rows .entry)) (now (members .entry)) (now (points .entry)) kept (now (voice .entry))) ⌝ }
 {
-    let last = voice.last;
-    members::start_ties(members, last, board, flat, notes, chord);
+    members::start_ties(members, voice::last(voice), board, flat, notes, chord);
     members::add_members(members, kept.members, board, flat, notes, chord);
     let company = members::company_of(notes, chord);
     let draft = beat_row(place, running, b, notes, chord, v);
@@ -184,19 +168,19 @@ fn keep_rows(
     chord: &[u32],
     size: usize,
     kept: Kept,
-    voice: Voice,
+    voice: &mut VoiceWords,
     rows: &mut [u32],
     members: &mut [u32],
     points: &mut [u32],
-) -> Rowed
+) -> Kept
     requires { ⌜ (size ≤ 7) × (size ≤ length (now chord)) ⌝ }
-    ensures { λ r. ⌜ rowingOf (now (rows .exit)) (now (members .exit)) (now (points .exit)) (r .kept) (r .voice)
+    ensures { λ r. ⌜ rowingIn (now (rows .exit)) (now (members .exit)) (now (points .exit)) r (now (voice .exit))
         ≡ keepRows (words (now (s .entry))) (rowsOf place board flat running (beatIn (now (s .entry)) v (now (b .entry)) (now (notes .entry)))
         (chordIn (now (s .entry)) v (now (notes .entry)) (take size (now (chord .entry)))))
-        (rowingOf (now (rows .entry)) (now (members .entry)) (now (points .entry)) kept voice) ⌝ }
+        (rowingIn (now (rows .entry)) (now (members .entry)) (now (points .entry)) kept (now (voice .entry))) ⌝ }
 {
     let sounding = &chord[..size];
-    let graced = keep_graces(
+    let kept = keep_graces(
         s,
         v,
         place,
@@ -210,8 +194,6 @@ fn keep_rows(
         members,
         points,
     );
-    let kept = graced.kept;
-    let voice = graced.voice;
     keep_own(
         s,
         v,
@@ -243,18 +225,18 @@ pub fn keep_beat(
     chord: &Chord,
     count: usize,
     kept: Kept,
-    voice: Voice,
+    voice: &mut VoiceWords,
     rows: &mut [u32],
     members: &mut [u32],
     points: &mut [u32],
-) -> Rowed
-    ensures { λ r. ⌜ rowingOf (now (rows .exit)) (now (members .exit)) (now (points .exit)) (r .kept) (r .voice)
+) -> Kept
+    ensures { λ r. ⌜ rowingIn (now (rows .exit)) (now (members .exit)) (now (points .exit)) r (now (voice .exit))
         ≡ keepBeat (words (now (s .entry))) place board flat running (beatIn (now (s .entry)) v (now (b .entry)) (now (notes .entry)))
         (chordIn (now (s .entry)) v (now (notes .entry)) (take count (now (chord .entry))))
-        (rowingOf (now (rows .entry)) (now (members .entry)) (now (points .entry)) kept voice) ⌝ }
+        (rowingIn (now (rows .entry)) (now (members .entry)) (now (points .entry)) kept (now (voice .entry))) ⌝ }
 {
     if !beat::field::kept(b) {
-        return Rowed { kept, voice };
+        return kept;
     }
     let size = size_of(count);
     keep_rows(

@@ -14,10 +14,8 @@ ghost use Rattle.score.specs.Members.{Keyed, memberOf};
 ghost use Rattle.score.specs.Page.{dynamicAt, rowEntry, runAfter, turnHammer, keepRow};
 ghost use Rattle.draft.specs.Chord.{chordIn};
 ghost use Rattle.words.specs.Words.{words, wordPlus};
-ghost use Rattle.words.specs.Meant.{rowingOf};
-ghost use Rattle.page.specs.Entry.{Sums};
+ghost use Rattle.page.specs.Entry.{Sums, rowingIn};
 ghost use Rattle.page.specs.Plain.{plainRow, noMarks};
-use crate::keep::Rowed;
 use crate::members;
 use crate::members::Company;
 use beat::places::Beat;
@@ -32,8 +30,9 @@ use score::Fretboard;
 use score::Hammer;
 use score::Kept;
 use score::OttavaRun;
-use score::Voice;
 use words::plus;
+use words::voice;
+use words::voice::VoiceWords;
 
 fn mark_word(mark: Level) -> u32
     ensures { λ r. ⌜ r ≡ dynamicWord (dynamicAt mark) ⌝ }
@@ -139,40 +138,32 @@ fn keep_row(
     chord: &[u32],
     size: usize,
     kept: Kept,
-    voice: Voice,
+    voice: &mut VoiceWords,
     rows: &mut [u32],
     members: &mut [u32],
-) -> Rowed
+) -> Kept
     requires { ⌜ (size ≤ 7) × (size ≤ length (now chord)) ⌝ }
     ensures { λ r. ⌜ ((s : List ℕ) (v : ℕ) (points : List ℕ) →
-        rowingOf (now (rows .exit)) (now (members .exit)) points (r .kept) (r .voice)
+        rowingIn (now (rows .exit)) (now (members .exit)) points r (now (voice .exit))
         ≡ keepRow (words s) (plainRow place board flat mark (beatIn s v (now (b .entry)) (now (notes .entry)))
         (chordIn s v (now (notes .entry)) (take size (now (chord .entry)))))
-        (rowingOf (now (rows .entry)) (now (members .entry)) points kept voice)) ⌝ }
+        (rowingIn (now (rows .entry)) (now (members .entry)) points kept (now (voice .entry)))) ⌝ }
 {
     let sounding = &chord[..size];
     let company = members::company_of(notes, sounding);
-    let hammer = voice.hammer;
-    let last = voice.last;
-    let frets = voice.frets;
-    let run = voice.run;
-    turn_hammer(rows, hammer, company);
+    turn_hammer(rows, voice::hammer(voice), company);
     store_plain(rows, place, mark, b, notes, sounding, company, kept);
-    members::start_ties(members, last, board, flat, notes, sounding);
+    members::start_ties(members, voice::last(voice), board, flat, notes, sounding);
     members::add_members(members, kept.members, board, flat, notes, sounding);
     let own = crate::rows::span_of(kept.members, company.count);
-    Rowed {
-        kept: Kept {
-            rows: plus(kept.rows, 1),
-            members: plus(kept.members, company.count),
-            points: points_kept(kept.points),
-        },
-        voice: Voice {
-            frets,
-            hammer: Hammer::NoHammer,
-            last: own,
-            run: run_left(company.count == 0, run),
-        },
+    let run = run_left(company.count == 0, voice::run(voice));
+    voice::put_hammer(voice, Hammer::NoHammer);
+    voice::put_last(voice, own);
+    voice::put_run(voice, run);
+    Kept {
+        rows: plus(kept.rows, 1),
+        members: plus(kept.members, company.count),
+        points: points_kept(kept.points),
     }
 }
 
@@ -187,15 +178,15 @@ pub fn keep_plain(
     chord: &Chord,
     count: usize,
     kept: Kept,
-    voice: Voice,
+    voice: &mut VoiceWords,
     rows: &mut [u32],
     members: &mut [u32],
-) -> Rowed
+) -> Kept
     ensures { λ r. ⌜ ((s : List ℕ) (v : ℕ) (points : List ℕ) →
-        rowingOf (now (rows .exit)) (now (members .exit)) points (r .kept) (r .voice)
+        rowingIn (now (rows .exit)) (now (members .exit)) points r (now (voice .exit))
         ≡ keepRow (words s) (plainRow place board flat mark (beatIn s v (now (b .entry)) (now (notes .entry)))
         (chordIn s v (now (notes .entry)) (take count (now (chord .entry)))))
-        (rowingOf (now (rows .entry)) (now (members .entry)) points kept voice)) ⌝ }
+        (rowingIn (now (rows .entry)) (now (members .entry)) points kept (now (voice .entry)))) ⌝ }
 {
     let size = crate::keep::size_of(count);
     keep_row(

@@ -19,7 +19,8 @@ use model::kinds;
 use score::Hammer;
 use score::Kept;
 use score::OttavaRun;
-use score::Voice;
+use words::voice;
+use words::voice::VoiceWords;
 ghost use mathlib.Core.Path.{_≡_};
 ghost use mathlib.Core.List.{List, []};
 ghost use Prim.Native.Nat.{_*_};
@@ -30,6 +31,7 @@ ghost use Rattle.model.specs.declared.Point.{Point};
 ghost use Rattle.score.specs.Page.{spanOf, marked, textLeft, dynamicAt, rowEntry};
 ghost use Rattle.score.specs.Page.{pulls, hammerAfter, turnHammer, under, sameKind, ottavaMarks, runAfter, turnRun};
 ghost use Rattle.words.specs.Words.{words};
+ghost use Rattle.words.specs.Voices.{voiceIn};
 ghost use Rattle.draft.specs.Meant.{drawn};
 ghost use Rattle.page.specs.Entry.{Sums, Bends, undrawn, playingOf, expressionOf};
 
@@ -229,18 +231,17 @@ pub(crate) fn add_row(
     company: Company,
     bent: Bent,
     kept: Kept,
-    voice: Voice,
+    voice: &VoiceWords,
 )
     ensures { λ _. ⌜ ((ms : List Member) (ps : List Point) → Sums ms company → Bends ps bent → now (rows .exit)
         ≡ sets
-        (turnRun (words []) (voice .run) (drawn ms ps draft)
-        (turnHammer (words []) (voice .hammer) (drawn ms ps draft) (now (rows .entry))))
+        (turnRun (words []) (voiceIn (now (voice .entry)) .run) (drawn ms ps draft)
+        (turnHammer (words []) (voiceIn (now (voice .entry)) .hammer) (drawn ms ps draft) (now (rows .entry))))
         (kept .rows * rowStride)
-        (rowWords (rowEntry (drawn ms ps draft) (ottavaMarks (drawn ms ps draft) (voice .run)) kept))) ⌝ }
+        (rowWords (rowEntry (drawn ms ps draft) (ottavaMarks (drawn ms ps draft) (voiceIn (now (voice .entry)) .run)) kept))) ⌝ }
 {
-    let hammer = voice.hammer;
-    let run = voice.run;
-    turn_hammer(rows, hammer, draft, company);
+    let run = voice::run(voice);
+    turn_hammer(rows, voice::hammer(voice), draft, company);
     turn_run(rows, run, draft);
     let row = row_entry(draft, company, bent, ottava_marks(draft, run), kept);
     store_row(rows, kept.rows as usize, row);

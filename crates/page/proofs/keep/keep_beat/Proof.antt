@@ -1,6 +1,5 @@
 -- A beat that is kept, and its sounding notes. Assumes nothing.
 use mathlib.Core.Path.{refl, sym, _∙_}
-use native.Mathlib.Omega.{arith}
 use borrow.Author.Tests.{not-true, not-false}
 use Rattle.page.proofs.Picked.{picked, passed}
 use Rattle.page.proofs.Rowing.{first-notes}
@@ -15,18 +14,13 @@ keep-beat-spec =
     (λ c κs. search needs)
     (λ c. passed _ (sym (c .before .kept .ensures) ∙ not-true _ (c .if1 .taken)) refl)
     (λ c κs. search needs)
-    (λ c κs.
-    let size = c .before .before .before .before .size-of .ensures in
-    let seven = c .before .before .before .keep-rows-arg .given .0 in
-    (omega (arith, size), omega (arith, size, seven)))
+    (λ c κs. search needs)
     (λ c. search needs)
     (λ c. search needs)
     (λ c. search needs)
-    (λ c.
-    let rows = c .before .before .before .before .before .before in
-    let chord = rows .before .before .before .before in
-    let size = chord .before in
+    (λ c. let rows = c .before .before .before .before .before .before in
+    let size = rows .before .before .before .before .before .before in
     let test = size .before in
     let a = test .before .before .before .before .before .before .args in
-    let notes = first-notes (a .chord .now) (a .count) (chord .keep-rows-arg .given .0) (size .size-of .ensures) in
+    let notes = first-notes (a .chord .now) (a .count) (rows .before .before .before .before .before .keep-rows-arg .given .0) (size .size-of .ensures) in
     picked _ (sym (test .before .kept .ensures) ∙ not-false _ (test .if1 .left)) (rw notes at (rows .keep-rows .ensures))))

@@ -2,6 +2,7 @@
 use Rattle.beat.specs.Words.{beatIn}
 use Rattle.score.specs.Rows.{beatRow}
 use Rattle.draft.specs.Chord.{chordIn}
+use Rattle.words.specs.Voices.{voiceIn}
 use Rattle.page.proofs.Gathering.{membersOf}
 use Rattle.page.proofs.Rowing.{own-kept}
 use borrow.Author.Needs.{needs}
@@ -17,22 +18,22 @@ keep-own-spec =
     (λ c κs. search needs)
     (λ c κs. search needs)
     (λ c κs. search needs)
+    (λ c κs. search needs)
     (λ c. search needs)
-    -- what kept its length is named: it stands behind the records that a search sees
-    (λ c. search (needs, c .before .before .before .before .before .before .before .before .before .before .before .add-members .kept, c .before .before .before .before .before .before .before .before .before .before .before .before .before .before .before .start-ties .kept))
+    (λ c. search needs)
     (λ c. search needs)
     (λ c.
     let row = c .before .before .before .before in
-    let draft = row .before .before .before in
+    let draft = row .before .before .before .before in
     let company = draft .before in
     let added = company .before .before .before in
     let ties = added .before .before .before .before in
-    let a = ties .before .before .before .before .before .before .before .before .args in
+    let a = ties .before .before .before .before .before .before .before .before .before .args in
     let b = beatIn (a .s .now) (a .v) (a .b .now) (a .notes .now) in
     let xs = chordIn (a .s .now) (a .v) (a .notes .now) (a .chord .now) in
     let ms = membersOf (a .s .now) (a .v) (a .notes .now) (a .board) (a .flat) (a .chord .now) in
     let sums = company .company-of .ensures (a .s .now) (a .v) (a .board) (a .flat) in
-    own-kept (a .s .now) (a .kept) (a .voice) (a .rows .now) (a .members .now) (a .points .now) ms (draft .beat-row .result)
+    own-kept (a .s .now) (a .kept) (voiceIn (a .voice .now)) (a .rows .now) (a .members .now) (a .points .now) ms (draft .beat-row .result)
     (row .keep-row .ensures ms (a .members .now) sums) {row = beatRow (a .place) (a .board) (a .flat) (a .running) b xs}
-    (ties .start-ties .ensures (a .s .now) (a .v)) (added .add-members .ensures (a .s .now) (a .v))
+    (rw (ties .before .last .ensures) at (ties .start-ties .ensures (a .s .now) (a .v))) (added .add-members .ensures (a .s .now) (a .v))
     (draft .beat-row .ensures (a .s .now) (a .board) (a .flat))))

@@ -1,6 +1,7 @@
 -- Table by table. Assumes nothing.
 use Rattle.note.specs.Points.{bendIn}
 use Rattle.score.specs.Rows.{curveOf}
+use Rattle.words.specs.Voices.{voiceIn}
 use Rattle.page.proofs.Rowing.{bends-by, row-kept}
 use borrow.Author.Needs.{needs}
 use Rattle.page.proofs.keep.keep_row.Statement.{statement}
@@ -16,12 +17,11 @@ keep-row-spec =
     (λ c κs. search needs)
     (λ c. search needs)
     (λ c. search needs)
-    (λ c ms members sums.
-    let row = c .before .before .before .before in
-    let curve = row .before .before .before .before in
+    (λ c ms members sums. let row = c .before .before .before .before .before in
+    let curve = row .before .before .before .before .before in
     let a = curve .before .before .before .before .before .before .args in
     let its = curveOf (bendIn (a .s .now) (a .draft .bend)) in
     let bent = curve .add-curve .ensures .1 in
-    row-kept (a .s .now) (a .kept) (a .voice) (a .rows .now) members (a .points .now) ms (a .draft) (a .company) sums
+    row-kept (a .s .now) (a .kept) (voiceIn (a .voice .now)) (a .rows .now) members (a .points .now) ms (a .draft) (a .company) sums
     bent (curve .add-curve .ensures .0) (row .add-row .ensures ms its sums (bends-by its bent))
-    (c .before .kept-after .ensures) (c .voice-after .ensures ms its sums)))
+    (c .before .before .kept-after .ensures) (c .turn-voice .ensures ms its sums)))

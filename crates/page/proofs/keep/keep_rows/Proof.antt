@@ -5,7 +5,7 @@ use lib.Seq.{length-take-le}
 use Rattle.beat.specs.Words.{beatIn}
 use Rattle.draft.specs.Chord.{chordIn}
 use Rattle.words.specs.Words.{words}
-use Rattle.words.specs.Meant.{rowingOf}
+use Rattle.page.specs.Entry.{rowingIn}
 use Rattle.page.proofs.Rowing.{so-many, both-rows}
 use borrow.Author.Needs.{needs}
 use Rattle.page.proofs.keep.keep_rows.Statement.{statement}
@@ -15,23 +15,19 @@ pub keep-rows-spec : {M : Type 1} → statement M
 keep-rows-spec =
     tie.close
     (tie.spec
-    (λ c.
-    let start = c .before .before .before .before .before .before in
+    (λ c. let start = c .before .before .before .before .before .before in
     sym (length-take-le (start .args .size) (start .args .chord .now) (start .pre .1)))
-    (λ c κs.
-    let start = c .before .before .before .before .before .before .before .before .before in
+    (λ c κs. let start = c .before .before .before .before .before .before .before .before .before .before in
     so-many (start .args .chord .now) (start .args .size) (start .pre .0) (start .pre .1))
-    (λ c κs.
-    let start = c .before .before .before .before .before .before .before .before .before .before .before .before .before .before .before .before .before .before .before .before .before in
+    (λ c κs. let start = c .before .before .before .before .before .before .before .before .before .before .before .before .before .before .before .before .before .before .before .before .before in
     so-many (start .args .chord .now) (start .args .size) (start .pre .0) (start .pre .1))
     (λ c. search needs)
     (λ c. search needs)
     (λ c. search needs)
-    (λ c.
-    let own = c .before .before .before .before .before .before in
-    let graced = own .before .before .before .before .before .before .before .before .before .before .before .before in
-    let a = graced .before .before .before .before .before .before .before .before .before .before .args in
-    let w = rowingOf (a .rows .now) (a .members .now) (a .points .now) (a .kept) (a .voice) in
+    (λ c. let own = c .before .before .before .before .before .before in
+    let graced = own .before .before .before .before .before .before .before .before .before .before .before in
+    let a = graced .before .before .before .before .before .before .before .before .before .before .before .args in
+    let w = rowingIn (a .rows .now) (a .members .now) (a .points .now) (a .kept) (a .voice .now) in
     let b = beatIn (a .s .now) (a .v) (a .b .now) (a .notes .now) in
     let xs = chordIn (a .s .now) (a .v) (a .notes .now) (take (a .size) (a .chord .now)) in
     rw (both-rows (words (a .s .now)) (a .place) (a .board) (a .flat) (a .running) b xs w)

@@ -1,5 +1,4 @@
 -- The notes that sound, and their row. Assumes nothing.
-use native.Mathlib.Omega.{arith}
 use Rattle.page.proofs.Rowing.{first-notes}
 use borrow.Author.Needs.{needs}
 use Rattle.page.proofs.plain.keep_plain.Statement.{statement}
@@ -10,16 +9,11 @@ keep-plain-spec =
     tie.close
     (tie.spec
     (λ c κs. search needs)
-    (λ c κs.
-    let size = c .before .before .before .size-of .ensures in
-    let seven = c .before .before .keep-row-arg .given .0 in
-    (omega (arith, size), omega (arith, size, seven)))
+    (λ c κs. search needs)
     (λ c. search needs)
     (λ c. search needs)
-    (λ c s v points.
-    let row = c .before .before .before .before in
-    let chord = row .before .before .before in
-    let size = chord .before in
+    (λ c s v points. let row = c .before .before .before .before in
+    let size = row .before .before .before .before .before in
     let a = size .before .before .before .args in
-    let notes = first-notes (a .chord .now) (a .count) (chord .keep-row-arg .given .0) (size .size-of .ensures) in
+    let notes = first-notes (a .chord .now) (a .count) (row .before .before .before .before .keep-row-arg .given .0) (size .size-of .ensures) in
     rw notes at (row .keep-row .ensures s v points)))

@@ -1,4 +1,5 @@
 -- One look back after the other, then the entry. Assumes nothing.
+use Rattle.words.specs.Voices.{voiceIn}
 use Rattle.page.proofs.Drawing.{row-added}
 use borrow.Author.Needs.{needs}
 use Rattle.page.proofs.rows.add_row.Statement.{statement}
@@ -12,14 +13,16 @@ add-row-spec =
     (λ c κs. search needs)
     (λ c κs. search needs)
     (λ c κs. search needs)
+    (λ c κs. search needs)
+    (λ c κs. search needs)
     (λ c. search needs)
     (λ c κs. search needs)
     (λ c. search needs)
-    (λ c ms ps sums bends.
-    let entry = c .before .before .before .before .before in
+    (λ c ms ps sums bends. let entry = c .before .before .before .before .before in
     let run = entry .before .before .before .before in
     let hammer = run .before .before .before .before in
-    let a = hammer .before .before .before .args in
-    row-added ms ps (a .draft) (a .kept) (a .voice .hammer) (a .voice .run) (a .rows .now)
-    (hammer .turn-hammer .ensures ms ps sums) (run .turn-run .ensures) (entry .before .ottava-marks .ensures)
+    let was = hammer .before .before .before .run .ensures in
+    let a = hammer .before .before .before .before .before .args in
+    row-added ms ps (a .draft) (a .kept) (voiceIn (a .voice .now) .hammer) (voiceIn (a .voice .now) .run) (a .rows .now)
+    (rw (hammer .before .hammer .ensures) at (hammer .turn-hammer .ensures ms ps sums)) (rw was at (run .turn-run .ensures)) (rw was at (entry .before .ottava-marks .ensures))
     (entry .row-entry .ensures ms ps sums bends) (c .before .before .store-row .ensures)))
