@@ -20,11 +20,12 @@ use Rattle.score.specs.declared.Fretboard.{Fretboard}
 use Rattle.score.specs.declared.Kept.{Kept}
 use Rattle.score.specs.declared.Remembered.{Remembered}
 use Rattle.score.specs.declared.Voice.{Voice}
-use Rattle.score.specs.Sounding.{sounding, remember}
+use Rattle.score.specs.Sounding.{sounding}
 use Rattle.score.specs.Members.{Keyed, inOrder}
 use Rattle.score.specs.Rows.{RowIs, rowsOf, levels}
 use Rattle.score.specs.Losses.{buildingLosses}
-use Rattle.score.specs.Page.{Rowing, keepRow, keepRows, keepBeat, withFrets, runningAfter, beatLosses, report, addBeat, bendRooms, keepText, textsAfter}
+use Rattle.score.specs.Page.{Rowing, keepRow, keepRows, keepBeat, runningAfter, beatLosses, report, addBeat, bendRooms, keepText, textsAfter}
+use Rattle.draft.specs.Chord.{heardBy}
 use Rattle.words.specs.Words.{Words, words, wordPlus, LARGEST, firstWord, tempoWords}
 use Rattle.words.specs.Meant.{rowingOf, walkOf}
 use Rattle.losses.proofs.Sums.{plus-none}
@@ -45,19 +46,19 @@ module _ (s : List ℕ) (place : Place) (flat : Bool) (b : BeatIs) (kept : Kept)
       sym (ap (λ k. pick k (keepRows (words s) (rowsOf place board flat running b chord) w) w) (plain .kept)
       ∙ ap (λ (rs : List RowIs). keepRows (words s) rs w) r)
 
-  pub sounds-plain : {board : Fretboard} {memory read voice : Voice} {running : ℕ} {level : LevelAfter} {chord : List Keyed} {frets : List Remembered}
+  pub sounds-plain : {board : Fretboard} {memory read voice : Voice} {running : ℕ} {level : LevelAfter} {chord : List Keyed}
       {kept2 : Kept} {rows2 members2 parts2 parts3 : List ℕ}
       → board ≡ words s .boardAt (place .track) parts → memory ≡ words s .voiceAt (place .track) (place .voice) parts → running ≡ words s .runningAt (place .track) parts
-      → chord ≡ inOrder board (sounding board (memory .frets) b) → frets ≡ remember (memory .frets) (sounding board (memory .frets) b)
-      → level ≡ levelAfter running (chordOf (levels chord)) → read ≡ withFrets memory frets
+      → chord ≡ inOrder board (sounding board (memory .frets) b) → read ≡ heardBy board memory b
+      → level ≡ levelAfter running (chordOf (levels chord))
       → rowingOf rows2 members2 points kept2 voice ≡ keepRow (words s) (plainRow place board flat (level .mark) b chord) (rowingOf rows members points kept read)
       → parts2 ≡ words s .putVoice (place .track) (place .voice) voice parts → parts3 ≡ words s .putRunning (place .track) (level .running) parts2
       → soundedOf rows2 members2 points parts3 kept2 chord ≡ sounded s place flat b kept rows members points parts
-  sounds-plain {board} {memory} {read} {voice} {running} {level} {chord} e1 e2 e3 e4 e5 l e6 e7 e8 e9 =
+  sounds-plain {board} {memory} {read} {voice} {running} {level} {chord} e1 e2 e3 e4 e5 l e6 e7 e8 =
       let after : level .running ≡ runningAfter (words s) running b chord =
       ap (λ (x : LevelAfter). x .running) l ∙ sym (ap (λ k. pick k (levelAfter running (chordOf (levels chord)) .running) running) (plain .kept)) in
-      sounds s place flat b kept rows members points parts e1 e2 e3 e4 e5 e6
-      (e7 ∙ one-row board (memory .frets) running chord level (rowingOf rows members points kept read) e4 l) e8 after e9
+      sounds s place flat b kept rows members points parts e1 e2 e3 e4 e5
+      (e6 ∙ one-row board (memory .frets) running chord level (rowingOf rows members points kept read) e4 l) e7 after e8
 
 -- ---- the rest: nothing
 same-word : (old : ℕ) → firstWord old 0 ≡ old

@@ -7,30 +7,30 @@ use Rattle.model.specs.declared.Place.{Place}
 use Rattle.beat.specs.Beat.{BeatIs}
 use Rattle.score.specs.declared.Fretboard.{Fretboard}
 use Rattle.score.specs.declared.Kept.{Kept}
-use Rattle.score.specs.declared.Remembered.{Remembered}
 use Rattle.score.specs.declared.Voice.{Voice}
-use Rattle.score.specs.Sounding.{sounding, remember}
+use Rattle.score.specs.Sounding.{sounding}
 use Rattle.score.specs.Members.{Keyed, inOrder}
-use Rattle.score.specs.Page.{keepBeat, withFrets, runningAfter, beatLosses, report, addBeat}
+use Rattle.score.specs.Page.{keepBeat, runningAfter, beatLosses, report, addBeat}
+use Rattle.draft.specs.Chord.{heardBy}
 use Rattle.words.specs.Words.{words}
 use Rattle.words.specs.Meant.{rowingOf, walkOf}
 use Rattle.enter.specs.declared.Progress.{Progress}
 use Rattle.enter.specs.Steps.{Sounded, soundedOf, sounded, rowing, textsWith, countWith, tallyOf, progressWith}
 
 module _ (s : List ℕ) (place : Place) (flat : Bool) (b : BeatIs) (kept : Kept) (rows members points parts : List ℕ) where
-  pub sounds : {board : Fretboard} {memory read voice : Voice} {running after : ℕ} {chord : List Keyed} {frets : List Remembered}
+  pub sounds : {board : Fretboard} {memory read voice : Voice} {running after : ℕ} {chord : List Keyed}
       {kept2 : Kept} {rows2 members2 points2 parts2 parts3 : List ℕ}
       → board ≡ words s .boardAt (place .track) parts → memory ≡ words s .voiceAt (place .track) (place .voice) parts → running ≡ words s .runningAt (place .track) parts
-      → chord ≡ inOrder board (sounding board (memory .frets) b) → frets ≡ remember (memory .frets) (sounding board (memory .frets) b) → read ≡ withFrets memory frets
+      → chord ≡ inOrder board (sounding board (memory .frets) b) → read ≡ heardBy board memory b
       → rowingOf rows2 members2 points2 kept2 voice ≡ keepBeat (words s) place board flat running b chord (rowingOf rows members points kept read)
       → parts2 ≡ words s .putVoice (place .track) (place .voice) voice parts → after ≡ runningAfter (words s) running b chord → parts3 ≡ words s .putRunning (place .track) after parts2
       → soundedOf rows2 members2 points2 parts3 kept2 chord ≡ sounded s place flat b kept rows members points parts
   unfolding sounded
-  sounds {board} {memory} {read} {voice} {running} {after} {chord} {frets} {kept2} {rows2} {members2} {points2} {parts2} {parts3} e1 e2 e3 e4 e5 e6 e7 e8 e9 e10 =
-      let g : rowingOf rows2 members2 points2 kept2 voice ≡ rowing s place flat b kept rows members points parts = e7 ∙ rw (e6, e5, e4, e2, e1, e3) in
+  sounds {board} {memory} {read} {voice} {running} {after} {chord} {kept2} {rows2} {members2} {points2} {parts2} {parts3} e1 e2 e3 e4 e5 e6 e7 e8 e9 =
+      let g : rowingOf rows2 members2 points2 kept2 voice ≡ rowing s place flat b kept rows members points parts = e6 ∙ rw (e5, e4, e2, e1, e3) in
       let v : voice ≡ rowing s place flat b kept rows members points parts .voice = ap (λ r. r .voice) g in
       let h : chord ≡ inOrder (words s .boardAt (place .track) parts) (sounding (words s .boardAt (place .track) parts) (words s .voiceAt (place .track) (place .voice) parts .frets) b) = e4 ∙ rw (e2, e1) in
-      let q : parts3 ≡ sounded s place flat b kept rows members points parts .parts = e10 ∙ rw (e9, e8, v, h, e3) in
+      let q : parts3 ≡ sounded s place flat b kept rows members points parts .parts = e9 ∙ rw (e8, e7, v, h, e3) in
       λ i. soundedOf (g i .rows) (g i .members) (g i .points) (q i) (g i .kept) (h i)
 
 module _ (s : List ℕ) (place : Place) (b : BeatIs) (progress : Progress) (lost bars rows members points texts parts : List ℕ) where

@@ -9,11 +9,12 @@ use Rattle.beat.specs.Beat.{BeatIs}
 use Rattle.score.specs.declared.Fretboard.{Fretboard}
 use Rattle.score.specs.declared.Kept.{Kept}
 use Rattle.score.specs.declared.Voice.{Voice}
-use Rattle.score.specs.Sounding.{Sounding, sounding, remember}
+use Rattle.score.specs.Sounding.{Sounding, sounding}
 use Rattle.score.specs.Members.{Keyed, inOrder}
-use Rattle.score.specs.Page.{TextIs, Rowing, keepBeat, withFrets, runningAfter, hasText, keepText, textsAfter, bendRooms}
+use Rattle.score.specs.Page.{TextIs, Rowing, keepBeat, runningAfter, hasText, keepText, textsAfter, bendRooms}
 use Rattle.score.specs.declared.Tally.{Tally}
 use Rattle.format.specs.Text.{pick}
+use Rattle.draft.specs.Chord.{heardBy}
 use Rattle.words.specs.Words.{Words, words, wordPlus}
 use Rattle.words.specs.Meant.{rowingOf}
 use Rattle.enter.specs.declared.Progress.{Progress}
@@ -47,7 +48,7 @@ module _ (s : List ℕ) (place : Place) (flat : Bool) (b : BeatIs) (kept : Kept)
   chord = inOrder board heard
 
   abbrev pub rowing : Rowing Words
-  rowing = keepBeat (words s) place board flat running b chord (rowingOf rows members points kept (withFrets memory (remember (memory .frets) heard)))
+  rowing = keepBeat (words s) place board flat running b chord (rowingOf rows members points kept (heardBy board memory b))
 
   unfoldable pub sounded : Sounded
   sounded =

@@ -4,12 +4,11 @@ use mathlib.Core.Path.{_≡_, refl, ap, sym, _∙_}
 use mathlib.Core.Bool.{Bool}
 use mathlib.Core.List.{List, [], _∷_, _++_, append-assoc}
 use native.Mathlib.Omega.{arith}
-use native.Mathlib.Numerals.{add-one}
 use native.Mathlib.Nat.{mod-eq-of-lt, add-zero}
 use lib.ListN.{length, getD, set, drop, length-append, List·getD-append}
 use lib.Seq.{sets, drop-cons, drop-length, getD-append-add, getD-at, set-at}
 use Rattle.model.specs.declared.Span.{Span}
-use Rattle.model.specs.KindLaws.{flag-back, ottava-back}
+use Rattle.model.specs.KindLaws.{flag-back}
 use Rattle.model.specs.Kinds.{flagOf}
 use Rattle.score.specs.declared.Fretboard.{Fretboard}
 use Rattle.score.specs.declared.Hammer.{Hammer}
@@ -17,13 +16,13 @@ use Rattle.score.specs.declared.Hammer.the-variants.{NoHammer, Waits}
 use Rattle.score.specs.declared.LastFret.{LastFret}
 use Rattle.score.specs.declared.LastFret.the-variants.{NoFret, Fret}
 use Rattle.score.specs.declared.OttavaRun.{OttavaRun}
-use Rattle.score.specs.declared.OttavaRun.the-variants.{NoRun, Over}
 use Rattle.score.specs.declared.Part.{Part}
 use Rattle.score.specs.declared.Remembered.{Remembered}
 use Rattle.score.specs.declared.Voice.{Voice}
 use Rattle.score.specs.Sounding.{nothing}
 use Rattle.score.specs.Score.{voiceOf, withVoice, withRunning}
 use Rattle.words.specs.Words.{runningPlace, voicePlace, fretWord, fretOf, hammerWords, hammerOf, runWords, runOf, voiceWords, boardWords, partWords, boardFrom, voiceFrom}
+use Rattle.words.specs.Voices.{fret-back, hammer-back, run-back}
 use Rattle.refine.specs.All.{all-getD}
 use Rattle.refine.specs.Runs.{sets-after, sets-before, sets-all}
 use Rattle.refine.specs.Parts.{Byte, LastFits, FretFits, HammerFits, VoiceFits, BoardFits, PartFits, voice-length, board-length}
@@ -43,25 +42,20 @@ seven l d e = cells-are l d 7 0 e
 
 -- ---- a voice
 
-fret-back : (x : LastFret) → LastFits x → fretOf (fretWord x) ≡ x
+last-fret-back : (x : LastFret) → LastFits x → fretOf (fretWord x) ≡ x
 unfolding fretOf
-fret-back NoFret f = refl
-fret-back (Fret n) f = rw (add-one, mod-eq-of-lt f)
-
-run-back : (r : OttavaRun) → runOf (getD (runWords r) 0 0) (getD (runWords r) 1 0) (getD (runWords r) 2 0) ≡ r
-unfolding runOf flagOf
-run-back NoRun = refl
-run-back (Over n kind) = rw (ottava-back kind)
+last-fret-back NoFret f = refl
+last-fret-back (Fret n) f = fret-back n f
 
 -- the words after those of the frets
 module _ (x : Span) (r : OttavaRun) where
   abbrev later : Hammer → ℕ → ℕ
   later h j = getD (hammerWords h ++ (x .first ∷ x .count ∷ []) ++ runWords r) j 0
 
-  hammer-back : (h : Hammer) → HammerFits h → hammerOf (later h 0) (later h 1) (later h 2) ≡ h
+  waits-back : (h : Hammer) → HammerFits h → hammerOf (later h 0) (later h 1) (later h 2) ≡ h
   unfolding hammerOf flagOf
-  hammer-back NoHammer f = refl
-  hammer-back (Waits n key) f = rw (mod-eq-of-lt f)
+  waits-back NoHammer f = refl
+  waits-back (Waits n key) f = hammer-back n key f
 
   last-back : (h : Hammer) → _≡_ {A = Span} (record { first = later h 3; count = later h 4 }) x
   last-back NoHammer = refl
@@ -83,9 +77,9 @@ voice-cells : (fret : ℕ → Remembered) (h : Hammer) (l : Span) (r : OttavaRun
     → voiceFrom 0 (voiceWords (voice (cells 7 0 fret) h l r)) ≡ voice (cells 7 0 fret) h l r
 unfolding voiceFrom voiceWords
 voice-cells fret h l r f q =
-    let back : (j : ℕ) → fretOf (fretWord (fret j .fret)) ≡ fret j .fret = λ j. fret-back (fret j .fret) (f j) in
+    let back : (j : ℕ) → fretOf (fretWord (fret j .fret)) ≡ fret j .fret = λ j. last-fret-back (fret j .fret) (f j) in
     same-voice (rw (back 0, back 1, back 2, back 3, back 4, back 5, back 6))
-    (hammer-back l r h q) (last-back l r h) (over-back l r h)
+    (waits-back l r h q) (last-back l r h) (over-back l r h)
 
 pub voice-back : (v : Voice) → VoiceFits v → voiceFrom 0 (voiceWords v) ≡ v
 voice-back v f =

@@ -1,22 +1,19 @@
 -- The words of a voice: what is said after a store, and the words that are kept. Assumes nothing.
-use Prim.Native.Nat.{ℕ, zero, suc, _+_, _-_, _%_, _<_}
+use Prim.Native.Nat.{ℕ, zero, suc, _+_, _-_, _%_}
 use mathlib.Core.Path.{_≡_, refl}
 use mathlib.Core.List.{List, [], _∷_, _++_, append-assoc}
 use native.Mathlib.Omega.{arith}
-use native.Mathlib.Nat.{mod-eq-of-lt}
 use lib.ListN.{length, getD, set}
 use lib.Seq.{sets}
 use Rattle.model.specs.Kinds.{flagOf}
-use Rattle.model.specs.KindLaws.{ottava-back}
 use Rattle.model.specs.declared.Span.{Span}
 use Rattle.score.specs.declared.Hammer.{Hammer}
 use Rattle.score.specs.declared.Hammer.the-variants.{NoHammer, Waits}
 use Rattle.score.specs.declared.OttavaRun.{OttavaRun}
 use Rattle.score.specs.declared.OttavaRun.the-variants.{NoRun, Over}
-use Rattle.score.specs.declared.Voice.{Voice}
 use Rattle.score.specs.Page.{withFrets}
-use Rattle.words.specs.Words.{fretWord, fretOf, hammerWords, hammerOf, runWords, runOf, voiceWords, voiceFrom}
-use Rattle.words.specs.Voices.{voiceIn, fretsIn, withHammer, withLast, withRun}
+use Rattle.words.specs.Words.{fretWord, fretOf, hammerWords, hammerOf, runWords, voiceWords, voiceFrom}
+use Rattle.words.specs.Voices.{voiceIn, fretsIn, withHammer, withLast, withRun, run-back}
 
 -- ---- what holds of every n words holds of a list with n
 
@@ -37,18 +34,9 @@ unfolding fretOf
 fret-kept zero h = absurd (h refl)
 fret-kept (suc f) h = let e : suc f - 1 ≡ f = omega arith in rw e
 
-pub hammer-back : (n key : ℕ) → key < 256 → hammerOf 1 n key ≡ Waits n key
-unfolding hammerOf flagOf
-hammer-back n key h = rw (mod-eq-of-lt h)
-
 pub no-hammer : hammerOf 0 0 0 ≡ NoHammer
 unfolding hammerOf flagOf
 no-hammer = refl
-
-run-back : (r : OttavaRun) → runOf (getD (runWords r) 0 0) (getD (runWords r) 1 0) (getD (runWords r) 2 0) ≡ r
-unfolding runOf flagOf
-run-back NoRun = refl
-run-back (Over n kind) = rw (ottava-back kind)
 
 -- ---- a voice after a store
 

@@ -49,6 +49,9 @@ unfoldable pub fretOf : ℕ → LastFret
 fretOf zero = NoFret
 fretOf (suc f) = Fret (f % 256)
 
+abbrev pub recalled : ℕ → Remembered
+recalled word = record { fret = fretOf word }
+
 -- a flag for whether there is one; its row; its key, or its kind
 abbrev pub hammerWords : Hammer → List ℕ
 hammerWords NoHammer = 0 ∷ 0 ∷ 0 ∷ []
@@ -89,7 +92,7 @@ boardFrom at t =
     }
 
 abbrev pub fretFrom : ℕ → List ℕ → Remembered
-fretFrom at t = record { fret = fretOf (getD t at 0) }
+fretFrom at t = recalled (getD t at 0)
 
 unfoldable pub voiceFrom : ℕ → List ℕ → Voice
 voiceFrom at t =

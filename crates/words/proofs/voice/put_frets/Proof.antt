@@ -1,5 +1,4 @@
 -- Store by store. Assumes nothing.
-use mathlib.Core.Path.{_∙_}
 use Rattle.words.proofs.Voices.{frets-put}
 use borrow.Author.Needs.{needs}
 use Rattle.words.proofs.voice.put_frets.Statement.{statement}
