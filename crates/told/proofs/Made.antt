@@ -1,0 +1,91 @@
+-- Every reading of a file is made of what the file tells. Assumes nothing.
+use Prim.Native.Nat.{ℕ, _+_, _<_, _≤_}
+use native.Mathlib.Omega.{arith}
+use mathlib.Core.Path.{_≡_, refl, sym, ap, _∙_}
+use mathlib.Core.List.{List, [], _∷_, _++_}
+use lib.ListN.{length, length-append}
+use Rattle.format.specs.Prog.{Res, ok, stopped, run}
+use Rattle.format.specs.Yields.{Bytes, Onward}
+use Rattle.refine.specs.All.{All, all-more}
+use Rattle.score.specs.File.{Song, Adding, Whole, file}
+use Rattle.score.specs.Follow.{Both, Follows, Relations, Alike, Agreed, alike}
+use Rattle.told.specs.Told.{HeadTold, TrackTold, BeatTold, Event, enters, plays, TracksTold, EventsTold, Told, noting, told}
+use Rattle.told.specs.Told.{addHeads, addTracks, addEvent, addEvents, headsMade, tracksMade, eventsMade, made, Placed}
+
+module _ {H T W : Type 0} (add : Adding H T W) where
+  -- ---- one more at the end
+  heads-more : (g : Song) (hs : List HeadTold) (h : HeadTold) (x : H)
+      → addHeads add g (hs ++ (h ∷ [])) x ≡ add .addHeader g (h .bar) (h .before) (h .header) (addHeads add g hs x)
+  heads-more g [] h x = refl
+  heads-more g (k ∷ hs) h x = heads-more g hs h _
+
+  tracks-more : (ts : List TrackTold) (t : TrackTold) (x : T)
+      → addTracks add (ts ++ (t ∷ [])) x ≡ add .addTrack (t .number) (t .track) (addTracks add ts x)
+  tracks-more [] t x = refl
+  tracks-more (u ∷ ts) t x = tracks-more ts t _
+
+  pub events-more : (es : List Event) (e : Event) (x : W) → addEvents add (es ++ (e ∷ [])) x ≡ addEvent add e (addEvents add es x)
+  events-more [] e x = refl
+  events-more (f ∷ es) e x = events-more es e _
+
+  -- ---- after each step of the file, what was added is made of what was noted
+  abbrev MadeSo : Relations H (List HeadTold) T TracksTold W EventsTold
+  MadeSo =
+      record {
+        headers = λ g n x hs at. x ≡ headsMade add g hs;
+        tracks = λ g n x u at. (x ≡ tracksMade add g u) × (length (u .tracks) ≡ n);
+        before = λ g n x w at. (x ≡ eventsMade add g w) × All (Placed g) (w .events) × (length (w .staves .tracks) ≡ g .counts .tracks);
+        within = λ g n x w at. (x ≡ eventsMade add g w) × All (Placed g) (w .events) × (length (w .staves .tracks) ≡ g .counts .tracks);
+      }
+
+  keeps-so : (s : List ℕ) → Alike s MadeSo add noting
+  keeps-so s =
+      record {
+        start = λ g at few l. refl;
+        header = λ g b time h x hs at n few l t f e. ap (add .addHeader g b time h) e ∙ sym (heads-more g hs _ (add .headers g));
+        tracks = λ g x hs at few e. (ap (add .tracks) e, refl);
+        track = λ g n t x u at m few l f e. (
+          ap (add .addTrack n t) (e .0) ∙ sym (tracks-more (u .tracks) _ _),
+          omega (arith, length-append (u .tracks) (record { number = n; track = t } ∷ []), e .1),
+        );
+        bars = λ g h hs t u earlier at few e l f. (λ i. add .bars (e i) (f .0 i), tt, f .1);
+        enter = λ g b x w at few l e. (
+          ap (add .enterBar b) (e .0) ∙ sym (events-more (w .events) (enters b) _),
+          all-more (Placed g) (w .events) (enters b) (e .1) l,
+          e .2,
+        );
+        beat = λ g b t v u x w at n few l k o f e. (
+          ap (add .addBeat b t v u) (e .0) ∙ sym (events-more (w .events) (plays _) _),
+          all-more (Placed g) (w .events) (plays _) (e .1) (l, k, o),
+          e .2,
+        );
+        leave = λ g b x w at few l e. e;
+        tracks-later = λ g t x u at n o e. e;
+        within-later = λ g b x w at n o e. e;
+      }
+
+  -- ---- so is the whole file
+  pub record MadeOf (s : List ℕ) (x : Whole T W) (n : ℕ) : Type 0 where
+    pub file : Told
+    pub tells : run told s 0 ≡ ok file n
+    pub is : x ≡ made add file
+    pub placed : All (Placed (file .song)) (file .bars .events)
+    pub tracks : length (file .bars .staves .tracks) ≡ file .song .counts .tracks
+
+  pub made-of-told : (s : List ℕ) → Bytes s → (x : Whole T W) (n : ℕ) → run (file add) s 0 ≡ ok x n → MadeOf s x n
+  unfolding told made
+  made-of-told s bytes x n e = go (run (file noting) s 0) refl (rw e at (alike bytes (keeps-so s) .follows (omega arith)))
+    where
+      go : (r : Res Told) → run (file noting) s 0 ≡ r → Both (Agreed s MadeSo) (ok x n) r → MadeOf s x n
+      go (stopped r) f b = absurd b
+      go (ok y m) f b =
+          let same : x .song ≡ y .song = b .1 .song in
+          let made-tracks : x .tracks ≡ tracksMade add (y .song) (y .tracks) = rw same at (b .1 .tracks .0) in
+          let made-bars : x .bars ≡ eventsMade add (y .song) (y .bars) = rw same at (b .1 .bars .0) in
+          record {
+            file = y;
+            tells = f ∙ ap (λ (k : ℕ). ok y k) (sym (b .0));
+            is = λ i. record { song = same i; tracks = made-tracks i; bars = made-bars i };
+            placed = rw same at (b .1 .bars .1);
+            tracks = b .1 .bars .2 ∙ ap (λ (g : Song). g .counts .tracks) same;
+          }
