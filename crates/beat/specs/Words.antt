@@ -48,14 +48,8 @@ TUPLET = 3
 abbrev pub CHORD-START : ℕ
 CHORD-START = 4
 
-abbrev pub CHORD-END : ℕ
-CHORD-END = 5
-
 abbrev pub TEXT-START : ℕ
 TEXT-START = 6
-
-abbrev pub TEXT-END : ℕ
-TEXT-END = 7
 
 abbrev pub EFFECTS : ℕ
 EFFECTS = 8

@@ -1,13 +1,12 @@
 -- The laws of two's complement, for every width: a number read as signed, its two's complement, and there and back. Assumes nothing.
-use Prim.Native.Nat.{ℕ, _+_, _-_, _^_, _<_}
+use Prim.Native.Nat.{ℕ, _-_, _^_, _<_}
 use native.Mathlib.Omega.{arith}
-use native.Mathlib.Decide.{decLt}
 use mathlib.Core.Path.{_≡_, refl, ap}
 use mathlib.Core.Bool.{Bool, true, false, true≢false}
-use borrow.Author.Tests.{lt-ltb, le-ltb, ltb-true}
+use borrow.Author.Tests.{ltb-true}
 use lib.Dec.{T, ltb}
 use lib.IntN.{ℤ, pos, negsuc, natAbs}
-use lib.Signed.{mag, ltZ, nonNeg}
+use lib.Signed.{ltZ, nonNeg}
 use mir.Syntax.{Width}
 use mir.Val.{bits, hbits, sel, toZ, ofZ, Fits, SFits}
 use mir.ValLaws.{pow-bits, half-full, toZ-pos, toZ-ofZ}
@@ -53,18 +52,3 @@ pub from-zero : (w : Width) (k : ℤ) → SFits w k → ltZ (toZ w (ofZ w k)) (p
 unfolding unsigned
 from-zero w (pos n) h t = low-casts w n n refl (h .sfits)
 from-zero w (negsuc n) h t = absurd (true≢false (rw (toZ-ofZ w (negsuc n) h) at t))
-
--- back to a number that fits
-pub signed-unsigned : (half : ℕ) (k : ℤ) → mag k < half → signed half (unsigned half k) ≡ k
-unfolding signed unsigned
-signed-unsigned half (pos n) h = simp (lt-ltb n half h)
-signed-unsigned half (negsuc n) h = simp (le-ltb (half + half - 1 - n) half (omega arith)) (ap negsuc (omega arith))
-
--- back to a two's complement
-pub unsigned-signed : (half v : ℕ) → v < half + half → unsigned half (signed half v) ≡ v
-unfolding signed unsigned
-unsigned-signed half v h =
-    elim (decLt v half) [
-      | yes d ↦ simp (lt-ltb v half d)
-      | no d ↦ simp (le-ltb v half (omega arith)) (omega arith)
-    ]

@@ -1,2 +1,4 @@
+pub mod Laws
+pub mod Examples
 pub mod Signed
 pub mod Slots

@@ -4,5 +4,3 @@ pub mod Slide
 pub mod Level
 pub mod Bend
 pub mod Slots
-pub mod Laws
-pub mod Examples

@@ -1,9 +1,9 @@
 -- What each note of a chord adds to its row, and what all of them give. Assumes nothing.
 use Prim.Native.Nat.{ℕ, zero, suc}
 use native.Mathlib.Omega.{arith}
-use mathlib.Core.Path.{_≡_, refl, sym, _∙_}
+use mathlib.Core.Path.{_≡_, refl, sym}
 use mathlib.Core.Bool.{Bool, true, false}
-use mathlib.Core.List.{List, [], _∷_, _++_, append-assoc, append-nil}
+use mathlib.Core.List.{List, [], _∷_, _++_}
 use borrow.Author.Tests.{lt-ltb}
 use lib.Dec.{ltb, eqb}
 use Rattle.format.specs.Text.{pick}
@@ -15,12 +15,12 @@ use Rattle.model.specs.declared.Technique.the-variants.{NoTechnique}
 use Rattle.model.specs.declared.TechniqueText.{TechniqueText}
 use Rattle.model.specs.declared.TechniqueText.the-variants.{NoText, HammerMark}
 use Rattle.model.specs.Marks.{addOnce, packed, byteCounted, noMarks, addMark}
-use Rattle.model.specs.MarksLaws.{Distinct, distinct-nil, distinct-add, add-packed, byte-counted}
+use Rattle.model.proofs.MarksLaws.{Distinct, distinct-nil, distinct-add, add-packed, byte-counted}
 use Rattle.note.specs.declared.bend.Bend.{Bend}
 use Rattle.beat.specs.declared.effects.BeatEffects.{BeatEffects}
 use Rattle.note.specs.Points.{pointsAt, bendIn}
 use Rattle.note.specs.Note.{NoteIs}
-use Rattle.score.specs.Facts.{marks-few}
+use Rattle.score.proofs.Facts.{marks-few}
 use Rattle.score.specs.Members.{Keyed, Graced}
 use Rattle.score.specs.Rows.{Played, bent, withText, withBend, withHammer, withSlide}
 use Rattle.score.specs.Rows.{beatMarks, addAll, marksOfNotes, marksOf}

@@ -13,7 +13,7 @@ use Rattle.model.specs.declared.Place.{Place}
 use Rattle.curve.specs.declared.level.Level.the-variants.{Absent, Given}
 use Rattle.curve.specs.declared.level.NoteLevel.{NoteLevel}
 use Rattle.curve.specs.Level.{chordOf}
-use Rattle.curve.specs.Laws.{chord-before, gives-plain}
+use Rattle.curve.proofs.Laws.{chord-before, gives-plain}
 use Rattle.beat.specs.declared.effects.BeatEffects.{BeatEffects}
 use Rattle.note.specs.declared.marks.GraceNote.{GraceNote}
 use Rattle.note.specs.declared.marks.GraceNote.the-variants.{NoGrace, Before}

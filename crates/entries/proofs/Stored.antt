@@ -4,10 +4,10 @@ use mathlib.Core.Path.{_≡_}
 use mathlib.Core.List.{List}
 use lib.ListN.{length}
 use lib.Seq.{sets}
-use Rattle.tables.specs.Laws.{sets-append, sets-start}
+use Rattle.tables.proofs.Laws.{sets-append, sets-start}
 use Rattle.model.specs.declared.Row.{Row}
 use Rattle.entries.specs.Words.{frontWords, backWords, rowWords}
-use Rattle.entries.specs.Laws.{front-length}
+use Rattle.entries.proofs.Laws.{front-length}
 
 pub row-stored : (t : List ℕ) (x : Row) (m at : ℕ) → at ≡ min m (length t) → sets (sets t at (frontWords x)) (at + 17) (backWords x) ≡ sets t m (rowWords x)
 unfolding rowWords

@@ -9,8 +9,8 @@ use Rattle.model.specs.declared.Member.{Member}
 use Rattle.model.specs.declared.Row.{Row}
 use Rattle.model.specs.declared.Technique.{Technique}
 use Rattle.model.specs.declared.Tempo.{Tempo}
-use Rattle.model.specs.Kinds.{endingPlaceWord, tempoWord, techniqueWord, flagWord}
-use Rattle.entries.specs.Words.{barWords, placeAt, tempoAt, rowWords, frontWords, backWords, techniqueAt, ottavaEndAt, memberWords, tieStartAt}
+use Rattle.model.specs.Kinds.{techniqueWord, flagWord}
+use Rattle.entries.specs.Words.{rowWords, frontWords, backWords, techniqueAt, ottavaEndAt, memberWords, tieStartAt}
 
 abbrev pub withPlace : EndingPlace → Bar → Bar
 withPlace p b = record {
@@ -26,10 +26,6 @@ withPlace p b = record {
   tempo = b .tempo;
 }
 
-pub place-set : (p : EndingPlace) (b : Bar) → set (barWords b) placeAt (endingPlaceWord p) ≡ barWords (withPlace p b)
-unfolding barWords
-place-set p b = refl
-
 abbrev pub withTempo : Tempo → Bar → Bar
 withTempo x b = record {
   time = b .time;
@@ -43,10 +39,6 @@ withTempo x b = record {
   direction = b .direction;
   tempo = x;
 }
-
-pub tempo-set : (x : Tempo) (b : Bar) → set (barWords b) tempoAt (tempoWord x) ≡ barWords (withTempo x b)
-unfolding barWords
-tempo-set x b = refl
 
 abbrev pub withTechnique : Technique → Row → Row
 withTechnique q r = record {

@@ -1,4 +1,2 @@
 pub mod Words
 pub mod Changed
-pub mod Fits
-pub mod Laws

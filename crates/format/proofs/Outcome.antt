@@ -12,11 +12,9 @@ use Rattle.format.specs.declared.Stop.{Stop}
 use Rattle.format.specs.declared.Stop.the-variants as S
 use Rattle.format.specs.Prog.{Prog, Res, ok, stopped, run}
 use Rattle.format.specs.Fits.{Begins}
-use Rattle.format.specs.Alike.{Same}
 use Rattle.format.specs.Outcome.{LIMIT, Outcome, whole, truncated, tooLong, stopOutcome, asOutcome, upTo, outcome}
 use Rattle.format.proofs.Run.{run-cut, run-within, clash}
 use Rattle.format.proofs.Fits.{reads}
-use Rattle.format.proofs.Alike.{same-run}
 
 pub outcome-short : {A : Type 0} (p : Prog A) (s : List ℕ) → length s ≤ LIMIT → outcome p s ≡ asOutcome truncated (run p s 0)
 unfolding outcome
@@ -83,8 +81,3 @@ module _ {A : Type 0} (p : Prog A) (s : List ℕ) (a : A) (n : ℕ) (e : outcome
       let w = run-within p s 0 n a (omega arith) was-read in
       let k = outcome-whole p s a n .0 e .0 in
       outcome-short p (take m s) (simp length-take (omega arith)) ∙ rw (run-cut p s 0 n m a (omega arith) l (omega arith) was-read)
-
-  -- bytes after n, more or fewer of them, and bytes that are passed over, change nothing
-  pub outcome-same : (t : List ℕ) → n ≤ length t → Same p s t 0 → outcome p t ≡ whole a n
-  outcome-same t l g =
-      outcome-whole p t a n .1 (outcome-whole p s a n .0 e .0, reads p t a n .0 (same-run p s t n a was-read l g))

@@ -13,7 +13,7 @@ use Rattle.format.specs.declared.Counted.{Counted}
 use Rattle.format.specs.Text.{pick, textOf, noText}
 use Rattle.format.specs.Prog.{Prog, ret, refuse, Res, ok, stopped, run, bind, turns, whenLe, whenEq, whenBits}
 use Rattle.format.specs.Fields.{u8, number, skip, words, limitOf, counted, count}
-use Rattle.format.specs.Fields.{stringOf, fixedString, intByteStringUnused, intString, intByteString}
+use Rattle.format.specs.Fields.{stringOf, fixedString, intByteStringUnused, intByteString}
 use Rattle.format.specs.Yields.{Yields, Onward, Bytes, OfFile}
 use Rattle.format.proofs.Run.{andThen, run-bind, clash, ret-ok, refuse-ok, byte-ok, pass-ok, text-ok, run-within}
 use Rattle.format.proofs.Text.{none-of-file, text-of-file}
@@ -140,10 +140,6 @@ module _ {s : List ℕ} {at : ℕ} where
   pub yield-intByteString : Yields s intByteString at (λ t _. OfFile s t)
   unfolding intByteString
   yield-intByteString = yield-after _ _ (λ size _ _. yield-after _ _ (λ _ _ _. yield-stringOf _))
-
-  pub yield-intString : Yields s intString at (λ t _. OfFile s t)
-  unfolding intString
-  yield-intString = yield-after _ _ (λ n _ _. yield-stringOf n)
 
 -- every way that a program may take, where nothing is asked of its fields but what it makes of them
 pub ruleset yielding = (yield-ret, yield-refuse, yield-after, yield-le, yield-eq, yield-bits)

@@ -1,2 +1,5 @@
+pub mod Fits
+pub mod KindLaws
+pub mod MarksLaws
 pub mod Digits
 pub mod Rest

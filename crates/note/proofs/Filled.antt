@@ -1,36 +1,32 @@
 -- What each function that reads a part of a note returns, over variables: the facts of its calls are the premises. Assumes nothing.
 use Prim.Native.Nat.{ℕ, _+_, _≤_, _<_, _%_}
 use native.Mathlib.Omega.{arith}
-use mathlib.Core.Path.{_≡_, refl, sym, ap, _∙_}
+use mathlib.Core.Path.{_≡_, refl}
 use mathlib.Core.List.{List, []}
 use mathlib.Core.Bool.{Bool, true, false, _&&_}
-use lib.ListN.{getD, set, length}
-use lib.Seq.{getD-set-other, getD-set-same}
+use lib.ListN.{getD}
 use lib.Bits.{bitAnd}
 use lib.Dec.{leb, ltb}
 use Rattle.format.specs.declared.Stop.{Stop}
-use Rattle.format.specs.declared.Stop.the-variants.{Ends}
 use Rattle.format.specs.declared.Place.{Place}
 use Rattle.format.specs.declared.Place.the-variants.{At, Stopped}
-use Rattle.format.specs.Text.{pick}
 use Rattle.format.specs.Prog.{Prog, ret, bind, has}
 use Rattle.format.specs.Fields.{u8, skip}
-use Rattle.format.specs.Place.{Reaches, Gives}
+use Rattle.format.specs.Place.{Gives}
 use Rattle.format.specs.Padded.{Padded, Arrives, placeAt}
-use Rattle.format.proofs.Rules.{then, done, still}
+use Rattle.format.proofs.Rules.{then, done}
 use Rattle.format.proofs.Padded as pad
 use Rattle.curve.specs.Held.{held, byteEnd}
 use Rattle.curve.specs.Slide.{slideOf}
-use Rattle.curve.specs.declared.level.Level.{Level}
 use Rattle.curve.specs.declared.level.Level.the-variants.{Absent, Given}
 use Rattle.note.specs.declared.bend.Bend.{Bend}
 use Rattle.note.specs.declared.marks.Tremolo.the-variants.{NoTremolo, Strokes}
 use Rattle.note.specs.Optional.{optional, Passed, moreFlags}
-use Rattle.note.specs.Points.{BendPoint, bend, bendIn, pointsAt}
+use Rattle.note.specs.Points.{bend, bendIn, pointsAt}
 use Rattle.note.specs.Marks.{noteBend, grace, graceNote, graceFlags, tremolo, slide, slideFlag, harmonic, harmonicEnd, noHarmonic, trill, marks, marksOf, noMarks, noNoteEffects, noteEffects}
 use Rattle.note.specs.Note.{hands, noHands, accidental, percent, frettedByte, ownDuration, dynamic, noteEnd, noteBy, note}
-use Rattle.note.specs.Words.{byteIn, dynamicIn, handsIn, graceIn, tremoloIn, slideIn, harmonicIn, marksBy, marksIn, bendBy, bendAt, effectsAt, endAt, noteBytes, noteIn, Kept, Put, Stored, Fills, FillsTo, EndTo}
-use Rattle.note.proofs.Stores.{kept-all, kept-on, kept-less, kept-set, byte-kept, has-set, has-clear}
+use Rattle.note.specs.Words.{byteIn, dynamicIn, handsIn, graceIn, tremoloIn, slideIn, harmonicIn, marksBy, marksIn, bendBy, bendAt, effectsAt, noteBytes, noteIn, Kept, Put, Stored, Fills, FillsTo, EndTo}
+use Rattle.note.proofs.Stores.{kept-all, kept-on, byte-kept, has-set, has-clear}
 
 module _ {s w w₁ : List ℕ} {at k : ℕ} {given : Bool} where
   pub put-given : {b : ℕ} → given ≡ true → b ≡ getD s at 0 → Stored k b w w₁ → Fills (optional given u8 0) 1 s at k w w₁ (byteIn w₁ k) (at + 1)

@@ -3,7 +3,7 @@
 use Prim.Native.Nat.{ℕ, zero, suc, _+_, _*_, _-_, _/_, _%_, _^_, _<_, _≤_}
 use mathlib.Core.Path.{_≡_}
 use mathlib.Core.List.{List, [], _∷_}
-use mathlib.Core.Bool.{Bool, true, false, not, _||_}
+use mathlib.Core.Bool.{Bool, false, not, _||_}
 use lib.ListN.{getD}
 use lib.Dec.{eqb}
 use lib.Bits.{bitAnd}
@@ -28,7 +28,7 @@ use Rattle.note.specs.declared.LeftHand.the-variants.{NoFinger}
 use Rattle.note.specs.declared.Hands.{Hands}
 use Rattle.note.specs.declared.NoteRead.{NoteRead}
 use Rattle.note.specs.Optional.{notNegative}
-use Rattle.note.specs.Points.{BendPoint, bendIn}
+use Rattle.note.specs.Points.{bendIn}
 use Rattle.note.specs.Marks.{EffectsIs, graceOf, slideFlag, marksOf, noMarks}
 use Rattle.note.specs.Note.{NoteIs, leftHand, readOf, noteEnd, noNote}
 use Rattle.note.specs.Notes.{stringBit}

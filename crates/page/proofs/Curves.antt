@@ -10,7 +10,7 @@ use Rattle.model.specs.declared.Point.{Point}
 use Rattle.curve.specs.declared.bend.NextPoint.the-variants.{Here, End}
 use Rattle.curve.specs.declared.bend.Slots.{Slots}
 use Rattle.curve.specs.Bend.{pointOf, finish}
-use Rattle.curve.specs.Laws.{left-next}
+use Rattle.curve.proofs.Laws.{left-next}
 use Rattle.curve.specs.Slots.{left, leftOf, nextPoint}
 use Rattle.note.specs.declared.bend.Bend.{Bend}
 use Rattle.note.specs.Points.{BendPoint, word, pointsAt, bendIn}

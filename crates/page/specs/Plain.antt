@@ -1,5 +1,4 @@
 -- The row of a beat of plain notes. Assumes nothing.
-use Prim.Native.Nat.{ℕ}
 use mathlib.Core.Bool.{Bool, false}
 use mathlib.Core.List.{List, [], map}
 use Rattle.curve.specs.declared.level.Level.{Level}

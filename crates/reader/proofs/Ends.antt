@@ -15,9 +15,9 @@ use Rattle.model.specs.declared.Sizes.{Sizes}
 use Rattle.model.specs.Answers.{refusal, noRoomAnswer}
 use Rattle.score.specs.declared.Tally.{Tally}
 use Rattle.score.specs.Reading.{Tables, refused, enough, songOf, reading}
-use Rattle.refine.specs.Rooms.{neededBy}
-use Rattle.refine.specs.Counting.{Enters, counted-stop, counted-end}
-use Rattle.refine.specs.Returns.{stopAnswer, roomsBy, refused-is, no-room-is, never-stops, read-is}
+use Rattle.refine.proofs.Rooms.{neededBy}
+use Rattle.refine.proofs.Counting.{Enters, counted-stop, counted-end}
+use Rattle.refine.proofs.Returns.{stopAnswer, roomsBy, refused-is, no-room-is, never-stops, read-is}
 use Rattle.front.specs.declared.SongRead.{SongRead}
 use Rattle.reader.specs.Passed.{wholeOf}
 use Rattle.reader.specs.Result.{FirstPass, Fills}

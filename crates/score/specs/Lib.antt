@@ -1,5 +1,4 @@
 pub mod File
-pub mod Examples
 pub mod Sounding
 pub mod Members
 pub mod Rows
@@ -8,7 +7,3 @@ pub mod Losses
 pub mod Page
 pub mod Score
 pub mod Reading
-pub mod Facts
-pub mod Follow
-pub mod Summary
-pub mod Files

@@ -3,10 +3,8 @@
 use Prim.Native.Nat.{ℕ, zero, suc, _+_}
 use mathlib.Core.List.{List, [], _∷_, _++_}
 use mathlib.Core.Bool.{Bool, true, false, not, _&&_}
-use lib.Dec.{eqb}
 use Rattle.model.specs.declared.Loss.{Loss}
 use Rattle.model.specs.declared.Loss.the-variants as L
-use Rattle.model.specs.Answers.{lossNumber}
 use Rattle.header.specs.declared.Header.{Header}
 use Rattle.track.specs.declared.Track.{Track}
 use Rattle.format.specs.Prog.{has}
@@ -28,11 +26,6 @@ reportIf false l = []
 abbrev pub reported : ℕ → Loss → List Loss
 reported zero l = []
 reported (suc n) l = l ∷ reported n l
-
--- how often a loss was reported
-abbrev pub timesReported : ℕ → List Loss → ℕ
-timesReported number [] = 0
-timesReported number (l ∷ ls) = pick (eqb (lossNumber l) number) 1 0 + timesReported number ls
 
 unfoldable pub headerLosses : Header → List Loss
 headerLosses h = reportIf (h .«repeat_lost») L.RepeatCount ++ reportIf (h .«swing_lost») L.TripletFeel

@@ -5,7 +5,6 @@ use mathlib.Core.List.{List, [], _∷_, _++_}
 use mathlib.Core.Bool.{Bool, true, false, not, _&&_}
 use lib.ListN.{getD, length, set, replicate}
 use lib.Dec.{eqb, ltb}
-use Rattle.format.specs.declared.Range.{Range}
 use Rattle.format.specs.Text.{Text, pick}
 use Rattle.model.specs.declared.Bar.{Bar}
 use Rattle.model.specs.declared.Dynamic.{Dynamic}
@@ -18,7 +17,6 @@ use Rattle.model.specs.declared.Key.{Key}
 use Rattle.model.specs.declared.Loss.{Loss}
 use Rattle.model.specs.declared.Loss.the-variants.{TripletFeel, UnsupportedDirection}
 use Rattle.model.specs.declared.Member.{Member}
-use Rattle.model.specs.declared.Ottava.{Ottava}
 use Rattle.model.specs.declared.Ottava.the-variants.{NoOttava}
 use Rattle.model.specs.declared.OttavaMarks.{OttavaMarks}
 use Rattle.model.specs.declared.Place.{Place}
@@ -39,7 +37,6 @@ use Rattle.curve.specs.declared.bend.Height.the-variants as C
 use Rattle.curve.specs.declared.bend.Height as Curve
 use Rattle.curve.specs.declared.level.Level.{Level}
 use Rattle.curve.specs.declared.level.Level.the-variants.{Absent, Given}
-use Rattle.curve.specs.declared.level.LevelAfter.{LevelAfter}
 use Rattle.curve.specs.Level.{forte, chordOf, levelAfter}
 use Rattle.header.specs.declared.Header.{Header}
 use Rattle.track.specs.declared.Track as STrack

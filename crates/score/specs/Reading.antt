@@ -5,7 +5,6 @@ use mathlib.Core.List.{List, _∷_, []}
 use lib.Dec.{leb}
 use lib.ListN.{getD, length}
 use Rattle.bin.specs.Signed.{signed}
-use Rattle.format.specs.declared.Range.{Range}
 use Rattle.format.specs.Text.{pick}
 use Rattle.format.specs.Outcome.{Outcome, whole, truncated, tooLong, badVersion, badCount, empty, outcome}
 use Rattle.tables.specs.Table.{over, words}

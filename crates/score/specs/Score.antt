@@ -6,23 +6,20 @@ use lib.ListN.{getD}
 use lib.Dec.{eqb}
 use Rattle.format.specs.Text.{pick, noText}
 use Rattle.tables.specs.Table.{change}
-use Rattle.model.specs.declared.Bar.{Bar}
 use Rattle.model.specs.declared.Member.{Member}
 use Rattle.model.specs.declared.Finger.the-variants.{NoFinger}
-use Rattle.model.specs.declared.Span.{Span}
 use Rattle.model.specs.declared.TabPosition.{TabPosition}
 use Rattle.model.specs.declared.TabPosition.the-variants.{OffTablature, Fretted}
 use Rattle.model.specs.declared.Technique.the-variants.{PullOff}
 use Rattle.model.specs.declared.Tempo.{Tempo}
 use Rattle.model.specs.declared.Tempo.the-variants.{NoTempo, Bpm}
 use Rattle.entries.specs.Changed.{withPlace, withTempo, withTechnique, withOttavaEnd, withTieStart}
-use Rattle.curve.specs.Level.{forte}
 use Rattle.track.specs.Track.{noTrack}
 use Rattle.score.specs.declared.Part.{Part}
 use Rattle.score.specs.declared.Voice.{Voice}
-use Rattle.score.specs.File.{Whole, Adding, file}
+use Rattle.score.specs.File.{Whole, file}
 use Rattle.score.specs.Bars.{followed, noBar}
-use Rattle.score.specs.Page.{Kind, bars, tracks, rows, members, points, texts, parts, Entry, TextIs, Tables, Heads, Staves, Walk, partOf, keeping}
+use Rattle.score.specs.Page.{Kind, Entry, TextIs, Tables, Staves, Walk, partOf, keeping}
 use Rattle.format.specs.Prog.{Prog}
 
 abbrev pub Lists : Kind → Type 0

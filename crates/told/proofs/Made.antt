@@ -1,15 +1,15 @@
 -- Every reading of a file is made of what the file tells. Assumes nothing.
-use Prim.Native.Nat.{ℕ, _+_, _<_, _≤_}
+use Prim.Native.Nat.{ℕ, _+_}
 use native.Mathlib.Omega.{arith}
 use mathlib.Core.Path.{_≡_, refl, sym, ap, _∙_}
 use mathlib.Core.List.{List, [], _∷_, _++_}
 use lib.ListN.{length, length-append}
 use Rattle.format.specs.Prog.{Res, ok, stopped, run}
-use Rattle.format.specs.Yields.{Bytes, Onward}
-use Rattle.refine.specs.All.{All, all-more}
+use Rattle.format.specs.Yields.{Bytes}
+use Rattle.refine.proofs.All.{All, all-more}
 use Rattle.score.specs.File.{Song, Adding, Whole, file}
-use Rattle.score.specs.Follow.{Both, Follows, Relations, Alike, Agreed, alike}
-use Rattle.told.specs.Told.{HeadTold, TrackTold, BeatTold, Event, enters, plays, TracksTold, EventsTold, Told, noting, told}
+use Rattle.score.proofs.Follow.{Both, Relations, Alike, Agreed, alike}
+use Rattle.told.specs.Told.{HeadTold, TrackTold, Event, enters, plays, TracksTold, EventsTold, Told, noting, told}
 use Rattle.told.specs.Told.{addHeads, addTracks, addEvent, addEvents, headsMade, tracksMade, eventsMade, made, Placed}
 
 module _ {H T W : Type 0} (add : Adding H T W) where

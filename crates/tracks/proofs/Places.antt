@@ -7,7 +7,7 @@ use native.Mathlib.Decide.{decLe}
 use native.Mathlib.Nat.{add-zero, min-eq-left, min-eq-right}
 use lib.ListN.{length, getD, set, take, drop, replicate, length-append, length-drop, drop-of-length-le}
 use lib.Seq.{sets, getD-drop, getD-take, take-all}
-use Rattle.tables.specs.Laws.{sets-append}
+use Rattle.tables.proofs.Laws.{sets-append}
 use Rattle.score.specs.Page.{noVoice, boardOf, partOf}
 use Rattle.curve.specs.Level.{forte}
 use Rattle.track.specs.declared.Track.{Track}

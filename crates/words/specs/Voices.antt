@@ -7,7 +7,7 @@ use native.Mathlib.Numerals.{add-one}
 use lib.ListN.{getD}
 use Rattle.model.specs.declared.Span.{Span}
 use Rattle.model.specs.Kinds.{flagOf}
-use Rattle.model.specs.KindLaws.{ottava-back}
+use Rattle.model.proofs.KindLaws.{ottava-back}
 use Rattle.score.specs.declared.Hammer.{Hammer}
 use Rattle.score.specs.declared.Hammer.the-variants.{Waits}
 use Rattle.score.specs.declared.LastFret.the-variants.{Fret}

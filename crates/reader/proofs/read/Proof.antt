@@ -1,7 +1,7 @@
 -- By how the first pass ends, and by the room. Assumes nothing.
 use borrow.Author.Needs.{needs}
 use Rattle.format.proofs.Rules.{said-no, said-yes}
-use Rattle.refine.specs.Returns.{known-bytes}
+use Rattle.refine.proofs.Returns.{known-bytes}
 use Rattle.reader.proofs.Ends.{ends-refused, ends-short, ends-read}
 use Rattle.reader.proofs.read.Statement.{statement}
 use Rattle.reader.proofs.read.Tie as tie

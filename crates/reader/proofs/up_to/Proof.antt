@@ -3,7 +3,7 @@ use native.Mathlib.Omega.{arith}
 use mathlib.Core.Path.{refl, sym}
 use lib.Seq.{length-take-le}
 use Rattle.format.specs.Outcome.{upTo}
-use Rattle.score.specs.Follow.{upto-all}
+use Rattle.score.proofs.Follow.{upto-all}
 use Rattle.reader.proofs.up_to.Statement.{statement}
 use Rattle.reader.proofs.up_to.Tie as tie
 

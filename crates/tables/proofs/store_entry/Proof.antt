@@ -1,6 +1,6 @@
 -- The words of an entry, stored where the entry starts. Assumes nothing.
 use mathlib.Core.Path.{_∙_}
-use Rattle.tables.specs.Laws.{sets-start}
+use Rattle.tables.proofs.Laws.{sets-start}
 use borrow.Author.Needs.{needs}
 use Rattle.tables.proofs.store_entry.Statement.{statement}
 use Rattle.tables.proofs.store_entry.Tie as tie

@@ -1,6 +1,6 @@
 -- By the room that there is. Assumes nothing.
 use mathlib.Core.Path.{sym}
-use Rattle.tables.specs.Laws.{sets-out}
+use Rattle.tables.proofs.Laws.{sets-out}
 use borrow.Author.Needs.{needs}
 use Rattle.tables.proofs.store_words.Statement.{statement}
 use Rattle.tables.proofs.store_words.Tie as tie

@@ -1,5 +1,5 @@
 -- The words of an entry, stored where the entry starts. Assumes nothing.
-use Rattle.entries.specs.Laws.{bar-length}
+use Rattle.entries.proofs.Laws.{bar-length}
 use mathlib.Core.Path.{_∙_}
 use borrow.Author.Needs.{needs}
 use Rattle.entries.proofs.bars.store_bar.Statement.{statement}

@@ -1,7 +1,7 @@
 -- The words, stored where the part starts. Assumes nothing.
 use mathlib.Core.Path.{_∙_}
 use native.Mathlib.Nat.{add-zero}
-use Rattle.tables.specs.Laws.{sets-start}
+use Rattle.tables.proofs.Laws.{sets-start}
 use borrow.Author.Needs.{needs}
 use Rattle.tracks.proofs.parts.put_board.Statement.{statement}
 use Rattle.tracks.proofs.parts.put_board.Tie as tie

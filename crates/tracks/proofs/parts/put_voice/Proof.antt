@@ -1,6 +1,6 @@
 -- The words, stored where the voice stands. Assumes nothing.
 use mathlib.Core.Path.{_∙_}
-use Rattle.tables.specs.Laws.{sets-start}
+use Rattle.tables.proofs.Laws.{sets-start}
 use borrow.Author.Needs.{needs}
 use Rattle.tracks.proofs.parts.put_voice.Statement.{statement}
 use Rattle.tracks.proofs.parts.put_voice.Tie as tie

@@ -1,0 +1,5 @@
+pub mod Examples
+pub mod Facts
+pub mod Follow
+pub mod Summary
+pub mod Files

@@ -1,0 +1,183 @@
+-- What the theorems rest on: the outcome of a file's fields, and the result that it comes to. Laws only.
+use Prim.Native.Nat.{ℕ, _+_, _≤_, _<_}
+use native.Mathlib.Omega.{arith}
+use native.Mathlib.Decide.{decLe}
+use mathlib.Core.Logic.{inl, inr}
+use mathlib.Core.Path.{_≡_, refl, sym, ap, _∙_}
+use mathlib.Core.Bool.{Bool, true, false}
+use mathlib.Core.List.{List, _++_}
+use lib.ListN.{length, getD, take, drop, take-append-drop}
+use lib.Seq.{take-at}
+use Rattle.format.specs.declared.Stop.the-variants as S
+use Rattle.format.specs.Text.{pick, textOf}
+use Rattle.format.specs.Prog.{Prog, ret, refuse, byte, pass, text, Res, ok, stopped, run}
+use Rattle.format.specs.Alike.{Alike, Kept}
+use Rattle.format.specs.Outcome as Ends
+use Rattle.format.specs.Outcome.{LIMIT, Outcome, whole, asOutcome, upTo, outcome}
+use Rattle.format.proofs.Run.{byte-ok, pass-ok, text-ok, run-within}
+use Rattle.format.proofs.Fits.{reads}
+use Rattle.format.proofs.Alike.{alike-run, same-run}
+use Rattle.format.proofs.Outcome.{outcome-short, outcome-long, outcome-whole, outcome-cut}
+use Rattle.score.proofs.Follow.{upto-all}
+use Rattle.score.specs.Score.{scored}
+use Rattle.score.specs.Reading.{Tables, Result, Score, songOf, needed, enough, filled, fileAnswer, refused, resultOf}
+use Rattle.score.specs.Reading.{reading}
+use Rattle.model.specs.declared.Outcome.the-variants as O
+use Rattle.model.specs.Answers.{refusal, noRoomAnswer}
+use Rattle.theorems.proofs.Filled.{Untouched, untouched, filled-past}
+use Rattle.theorems.specs.Promise.{number, used, Beginning, Stops, Seven, read, truncated, version, count, empty}
+use Rattle.theorems.specs.Promise.{tooLong, noRoom}
+
+-- ---- a file and tables get one of the seven outcomes
+
+module _ (d : List ℕ) (t : Tables) (ends : Outcome Score)
+    (is : outcome scored d ≡ asOutcome ends (run scored (upTo LIMIT d) 0))
+    (cut : Stops d S.Ends → Seven d t (resultOf t ends)) where
+  of-whole : (x : Score) (n : ℕ) → Beginning d x n → (room : Bool) → enough (needed x) t ≡ room
+      → Seven d t
+      (pick room (record { answer = fileAnswer x n; tables = filled t x }) (refused (noRoomAnswer (needed x)) t))
+  of-whole x n b true e = read b e
+  of-whole x n b false e = noRoom b e
+
+  of-run : (x : Res Score) → run scored (upTo LIMIT d) 0 ≡ x → Seven d t (resultOf t (asOutcome ends x))
+  of-run (ok x n) e =
+      let w = outcome-whole scored d x n .0 (is ∙ ap (asOutcome ends) e) in
+      of-whole x n (record { limit = w .0; begins = w .1 }) (enough (needed x) t) refl
+  of-run (stopped S.Ends) e = cut (record { stops = e })
+  of-run (stopped S.Text) e = truncated (inr (record { stops = e }))
+  of-run (stopped S.Version) e = version (record { stops = e })
+  of-run (stopped (S.Count which value)) e = count (record { stops = e })
+  of-run (stopped S.Empty) e = empty (record { stops = e })
+
+  of-reading : Seven d t (reading d t)
+  unfolding reading
+  of-reading = rw is (of-run (run scored (upTo LIMIT d) 0) refl)
+
+pub seven-outcomes : (d : List ℕ) (t : Tables) → Seven d t (reading d t)
+seven-outcomes d t = elim (decLe (length d) LIMIT) [
+  | yes h ↦
+      of-reading d t Ends.truncated (outcome-short scored d h ∙ rw (upto-all LIMIT d h)) (λ s. truncated (inl (h, s)))
+  | no h ↦ of-reading d t Ends.tooLong (outcome-long scored d (omega arith)) (λ s. tooLong (omega arith) s)
+]
+
+-- a kept position of what was read is one of the bytes used
+pub kept-used : {A : Type 0} (p : Prog A) (s : List ℕ) (at n i : ℕ) (a : A) → at ≤ length s → run p s at ≡ ok a n
+    → Kept p s at i → i < n
+kept-used (ret x) s at n i a h e k = absurd k
+kept-used (refuse r) s at n i a h e k = absurd k
+kept-used (byte f) s at n i a h e (inl k) =
+    let w = byte-ok s at n a f e in
+    let v = run-within (f (getD s at 0)) s (at + 1) n a (omega arith) (w .1) in
+    omega arith
+kept-used (byte f) s at n i a h e (inr k) =
+    let w = byte-ok s at n a f e in
+    kept-used (f (getD s at 0)) s (at + 1) n i a (omega arith) (w .1) k
+kept-used (pass m p) s at n i a h e k =
+    let w = pass-ok s at n a m p e in
+    kept-used p s (at + m) n i a (w .0) (w .1) k
+kept-used (text m f) s at n i a h e (inl k) =
+    let w = text-ok s at n a m f e in
+    let v = run-within (f (textOf at (take m (drop at s)))) s (at + m) n a (w .0) (w .1) in
+    omega arith
+kept-used (text m f) s at n i a h e (inr k) =
+    let w = text-ok s at n a m f e in
+    kept-used (f (textOf at (take m (drop at s)))) s (at + m) n i a (w .0) (w .1) k
+
+-- ---- what each of them says, by its number
+
+pub up-to-six : {d : List ℕ} {t : Tables} {r : Result} → Seven d t r → number r ≤ 6
+up-to-six (read b e) = omega arith
+up-to-six (truncated s) = omega arith
+up-to-six (version s) = omega arith
+up-to-six (count s) = omega arith
+up-to-six (empty s) = omega arith
+up-to-six (tooLong l s) = omega arith
+up-to-six (noRoom b e) = omega arith
+
+pub refusal-keeps : {d : List ℕ} {t : Tables} {r : Result} → Seven d t r → (number r ≡ 0 → ⊥) → r .tables ≡ t
+refusal-keeps (read b e) h = absurd (h refl)
+refusal-keeps (truncated s) h = refl
+refusal-keeps (version s) h = refl
+refusal-keeps (count s) h = refl
+refusal-keeps (empty s) h = refl
+refusal-keeps (tooLong l s) h = refl
+refusal-keeps (noRoom b e) h = refl
+
+pub read-begins : {d : List ℕ} {t : Tables} {r : Result} → Seven d t r → number r ≡ 0
+    → (x : Score) × Beginning d x (used r) × (enough (needed x) t ≡ true)
+unfolding songOf
+read-begins (read {x = x} b e) h = (x, b, e)
+read-begins (truncated s) h = absurd (omega arith)
+read-begins (version s) h = absurd (omega arith)
+read-begins (count s) h = absurd (omega arith)
+read-begins (empty s) h = absurd (omega arith)
+read-begins (tooLong l s) h = absurd (omega arith)
+read-begins (noRoom b e) h = absurd (omega arith)
+
+pub short-begins : {d : List ℕ} {t : Tables} {r : Result} → Seven d t r → number r ≡ 6
+    → (x : Score) × (n : ℕ) × Beginning d x n × (enough (needed x) t ≡ false)
+short-begins (read b e) h = absurd (omega arith)
+short-begins (truncated s) h = absurd (omega arith)
+short-begins (version s) h = absurd (omega arith)
+short-begins (count s) h = absurd (omega arith)
+short-begins (empty s) h = absurd (omega arith)
+short-begins (tooLong l s) h = absurd (omega arith)
+short-begins (noRoom {x = x} {n = n} b e) h = (x, n, b, e)
+
+pub past-counts : {d : List ℕ} {t : Tables} {r : Result} → Seven d t r → Untouched (r .answer .counts) t (r .tables)
+past-counts {t = t} (read {x = x} b e) = filled-past t x
+past-counts {t = t} (truncated s) = untouched _ t
+past-counts {t = t} (version s) = untouched _ t
+past-counts {t = t} (count s) = untouched _ t
+past-counts {t = t} (empty s) = untouched _ t
+past-counts {t = t} (tooLong l s) = untouched _ t
+past-counts {t = t} (noRoom b e) = untouched _ t
+
+-- ---- a beginning that fits
+
+module _ {d : List ℕ} {x : Score} {n : ℕ} (b : Beginning d x n) where
+  is-whole : outcome scored d ≡ whole x n
+  is-whole = outcome-whole scored d x n .1 (b .limit, b .begins)
+
+  pub fits-read : (t : Tables) → enough (needed x) t ≡ true
+      → reading d t ≡ record { answer = fileAnswer x n; tables = filled t x }
+  unfolding reading
+  fits-read t e = rw (is-whole, e)
+
+  pub fits-short : (t : Tables) → enough (needed x) t ≡ false → reading d t ≡ refused (noRoomAnswer (needed x)) t
+  unfolding reading
+  fits-short t e = rw (is-whole, e)
+
+  pub fits-cut : (m : ℕ) → m < n → (t : Tables) → reading (take m d) t ≡ refused (refusal O.Truncated) t
+  unfolding reading
+  fits-cut m l t = rw (outcome-cut scored d x n is-whole m l)
+
+  -- another file, of which a beginning fits too and gives the same
+  pub same-reading : {e : List ℕ} → Beginning e x n → (t : Tables) → reading d t ≡ reading e t
+  unfolding reading
+  same-reading c t = rw (is-whole, outcome-whole scored _ x n .1 (c .limit, c .begins))
+
+  pub alike-begins : (e : List ℕ) → Alike scored d e 0 → Beginning e x n
+  alike-begins e a =
+      record {
+        limit = b .limit;
+        begins = reads scored e x n .0 (sym (alike-run scored d e 0 a) ∙ reads scored d x n .1 (b .begins));
+      }
+
+  pub after-begins : (e : List ℕ) → take n d ≡ take n e → Beginning e x n
+  after-begins e same =
+      let f = b .begins in
+      let l : take n e ≡ f .0 = sym same ∙ ap (take n) (f .2) ∙ take-at (f .0) (f .1) n (f .3) in
+      let cut : e ≡ f .0 ++ drop n e = sym (take-append-drop n e) ∙ ap (λ (u : List ℕ). u ++ drop n e) l in
+      record { limit = b .limit; begins = (f .0, drop n e, cut, f .3, f .4) }
+
+  pub kept-begins : (e : List ℕ) → n ≤ length e
+      → ((i : ℕ) → i < n → Kept scored d 0 i → getD d i 0 ≡ getD e i 0) → Beginning e x n
+  kept-begins e l same =
+      let w = reads scored d x n .1 (b .begins) in
+      record {
+        limit = b .limit;
+        begins =
+            reads scored e x n .0
+            (same-run scored d e n x w l (λ i k. same i (kept-used scored d 0 n i x (omega arith) w k) k));
+      }
