@@ -28,7 +28,7 @@ ghost use Rattle.format.specs.Text.{pick};
 ghost use Rattle.model.specs.declared.Loss.the-variants.{UnsupportedDirection};
 ghost use Rattle.score.specs.Bars.{standsAt, oneIf, several, directionAt, barOf};
 ghost use Rattle.score.specs.Bars.{isKey, sameKey, keyChanged, timeChanged, keyAfter, flatAfter};
-ghost use Rattle.score.specs.Bars.{goesOn, lastPlace, followed, endingOf, passesOf};
+ghost use Rattle.score.specs.Bars.{goesOn, lastPlace, followed, endingEntry, passesEntry};
 ghost use Rattle.score.specs.Losses.{reportIf, headerLosses};
 ghost use Rattle.score.specs.Page.{addHeader};
 ghost use Rattle.words.specs.Words.{words, goOnWords, keyWords, tempoWords};
@@ -198,7 +198,7 @@ fn followed(place: EndingPlace) -> EndingPlace
 }
 
 fn ending_of(n: u8) -> Ending
-    ensures { λ r. ⌜ r ≡ endingOf n ⌝ }
+    ensures { λ r. ⌜ r ≡ endingEntry n ⌝ }
 {
     if n == 0 {
         return Ending::NoEnding;
@@ -207,7 +207,7 @@ fn ending_of(n: u8) -> Ending
 }
 
 fn passes_of(mask: u8) -> Passes
-    ensures { λ r. ⌜ r ≡ passesOf mask ⌝ }
+    ensures { λ r. ⌜ r ≡ passesEntry mask ⌝ }
 {
     if mask == 0 {
         return Passes::NoPasses;

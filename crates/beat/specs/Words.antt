@@ -14,7 +14,7 @@ use Rattle.model.specs.declared.Tempo.the-variants.{NoTempo}
 use Rattle.model.specs.Kinds.{tempoFrom, flagOf}
 use Rattle.format.specs.declared.Place.{Place}
 use Rattle.format.specs.declared.Range.{Range}
-use Rattle.format.specs.Text.{Text, textIn, pick}
+use Rattle.format.specs.Text.{TextRead, textIn, pick}
 use Rattle.format.specs.Prog.{Prog, ret, bind, has}
 use Rattle.format.specs.Fields.{u8}
 use Rattle.format.specs.Place.{Reaches}
@@ -152,7 +152,7 @@ bareIn b =
     && (eqb (byteIn b EFFECTS) 0 && (eqb (byteIn b MORE-EFFECTS) 0 && eqb (numberIn b OTTAVA) 0))
 
 -- what stands after the mix table, with what was read before; w are the words of the notes
-abbrev pub endIn : List ℕ → (v : ℕ) → Head → (chord text : Text) → BeatEffects → Mix → (b w : List ℕ) → BeatIs
+abbrev pub endIn : List ℕ → (v : ℕ) → Head → (chord text : TextRead) → BeatEffects → Mix → (b w : List ℕ) → BeatIs
 endIn s v h c t e m b w =
     record {
       head = h;
@@ -194,7 +194,7 @@ pub record RangeStored (k : ℕ) (range : Range) (before after : List ℕ) : Typ
 
 -- what stands after the mix table, whatever was read before
 pub record NotesTo (v : ℕ) (s : List ℕ) (from : Place) (before after w : List ℕ) (to : Place) : Type 0 where
-  pub reads : (h : Head) (c t : Text) (e : BeatEffects) (m : Mix) → Reaches (beatNotes v h c t e m) s from (endIn s v h c t e m after w) to
+  pub reads : (h : Head) (c t : TextRead) (e : BeatEffects) (m : Mix) → Reaches (beatNotes v h c t e m) s from (endIn s v h c t e m after w) to
   pub below : Kept STRINGS before after
 
 -- brush and pick stroke: whatever the version is, and whatever was read before

@@ -99,7 +99,7 @@ fn range_of(start: usize, stop: usize) -> Range
 
 // The text of n bytes.
 pub fn words_at(s: &[u8], from: Place, n: usize) -> Kept
-    ensures { λ r. ⌜ Gives (field.words n) noText (now (s .entry)) from (textIn (now (s .entry)) (r .range)) (r .next) ⌝ }
+    ensures { λ r. ⌜ Gives (field.textBytes n) noText (now (s .entry)) from (textIn (now (s .entry)) (r .range)) (r .next) ⌝ }
 {
     let Place::At(at) = from else {
         return Kept {

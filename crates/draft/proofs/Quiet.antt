@@ -10,7 +10,7 @@ use Rattle.note.specs.Marks.{noMarks as noEffects}
 use Rattle.note.specs.Words.{start, noteIn, readIn, WithoutEffects, Plain}
 use Rattle.beat.specs.declared.effects.BeatEffects.{BeatEffects}
 use Rattle.score.specs.Members.{Keyed}
-use Rattle.score.specs.Rows.{Played, noPlay, accents, noteMarks, beatMarks, marksOf}
+use Rattle.score.specs.Rows.{Played, noPlay, accents, noteMarks, beatMarks, rowArticulations}
 use Rattle.draft.specs.Chord.{stringOf, chordIn}
 use Rattle.draft.specs.Steps.{playedBy, addMarks, beatHarmonic, Quiet}
 use Rattle.draft.proofs.Steps.{marks-packed}
@@ -44,7 +44,7 @@ module _ (s : List ℕ) (v : ℕ) (notes : List ℕ) {string : ℕ} (p : Plain v
 
 -- what they give with the beat
 pub quiet-marks : (e : BeatEffects) (xs : List Keyed) → Quiet xs → beatHarmonic e ≡ false
-    → addMarks noMarks (beatMarks e) ≡ packed (marksOf e xs)
+    → addMarks noMarks (beatMarks e) ≡ packed (rowArticulations e xs)
 quiet-marks e xs q h = rw (q .marks e h) at (marks-packed e xs)
 
 pub neither : (a b : Bool) → (a || b) ≡ false → (a ≡ false) × (b ≡ false)

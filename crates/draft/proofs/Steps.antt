@@ -23,7 +23,7 @@ use Rattle.note.specs.Note.{NoteIs}
 use Rattle.score.proofs.Facts.{marks-few}
 use Rattle.score.specs.Members.{Keyed, Graced}
 use Rattle.score.specs.Rows.{Played, bent, withText, withBend, withHammer, withSlide}
-use Rattle.score.specs.Rows.{beatMarks, addAll, marksOfNotes, marksOf}
+use Rattle.score.specs.Rows.{beatMarks, addedAll, marksOfNotes, rowArticulations}
 use Rattle.score.specs.Rows.{graceTechnique, graceText, graceHead}
 use Rattle.draft.specs.declared.graces.Graces.{Graces}
 use Rattle.draft.specs.Steps.{playedBy, addMarks, anyOf, gracesOf}
@@ -52,18 +52,18 @@ add-both m [] ys = refl
 add-both m (a ∷ xs) ys = add-both (addMark a m) xs ys
 
 -- adding to what a row holds is adding to the list
-add-all : (xs l : List Articulation) → Distinct l → addMarks (packed l) xs ≡ packed (addAll l xs)
+add-all : (xs l : List Articulation) → Distinct l → addMarks (packed l) xs ≡ packed (addedAll l xs)
 unfolding addMarks
 add-all [] l d = refl
 add-all (a ∷ xs) l d = rw (add-packed a l d) (add-all xs (addOnce a l) (distinct-add a l d))
 
 pub marks-packed : (e : BeatEffects) (xs : List Keyed)
-    → addMarks noMarks (marksOfNotes e xs ++ beatMarks e) ≡ packed (marksOf e xs)
-unfolding marksOf
+    → addMarks noMarks (marksOfNotes e xs ++ beatMarks e) ≡ packed (rowArticulations e xs)
+unfolding rowArticulations
 marks-packed e xs = add-all (marksOfNotes e xs ++ beatMarks e) [] distinct-nil
 
-pub marks-counted : (e : BeatEffects) (xs : List Keyed) → byteCounted (packed (marksOf e xs)) ≡ packed (marksOf e xs)
-marks-counted e xs = byte-counted (marksOf e xs) (marks-few e xs)
+pub marks-counted : (e : BeatEffects) (xs : List Keyed) → byteCounted (packed (rowArticulations e xs)) ≡ packed (rowArticulations e xs)
+marks-counted e xs = byte-counted (rowArticulations e xs) (marks-few e xs)
 
 -- ---- graces
 

@@ -22,7 +22,7 @@ use Rattle.note.specs.Words.{start, noteIn, readIn}
 use Rattle.beat.specs.Beat.{BeatIs}
 use Rattle.score.specs.declared.Fretboard.{Fretboard}
 use Rattle.score.specs.Members.{graces, gracedAfter, memberOf}
-use Rattle.score.specs.Rows.{Played, played, playedWith, noteMarks, beatMarks, marksOfNotes, levels, headOf}
+use Rattle.score.specs.Rows.{Played, played, playedWith, noteMarks, beatMarks, marksOfNotes, levels, rowHead}
 use Rattle.score.specs.Rows.{restRow, chordRow, beatRow}
 use Rattle.draft.specs.declared.Draft.{Draft}
 use Rattle.draft.specs.declared.graces.Graces.{Graces}
@@ -77,11 +77,11 @@ module _ (s : List ℕ) (v : ℕ) (notes chord : List ℕ) (i : ℕ) (inside : i
         sym (settled s v notes n i chord (level-before e f h ∙ rw (plain, g)))
 
     pub next-head : {dead : Bool} → dead ≡ readIn v notes string .dead → dead ≡ false
-        → headOf (chordIn s v notes (drop (i + 1) chord)) ≡ headOf (chordIn s v notes (drop i chord))
+        → rowHead (chordIn s v notes (drop (i + 1) chord)) ≡ rowHead (chordIn s v notes (drop i chord))
     next-head e f = rw (chord-next, ← at, ← e, f)
 
     pub dead-head : {dead : Bool} → dead ≡ readIn v notes string .dead → dead ≡ true
-        → Cross ≡ headOf (chordIn s v notes (drop i chord))
+        → Cross ≡ rowHead (chordIn s v notes (drop i chord))
     dead-head e f = rw (chord-next, ← at, ← e, f)
 
     pub next-graces : (x : Graces) {y : Graces} {g : GraceNote} → g ≡ readIn v notes string .effects .grace → y ≡ gracedIf g x

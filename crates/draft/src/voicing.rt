@@ -43,7 +43,7 @@ pub(crate) fn head_with(dead: bool, before: NoteHead) -> NoteHead
 }
 
 pub fn head_of(notes: &Notes, chord: &[u32]) -> NoteHead
-    ensures { λ r. ⌜ ((s : List ℕ) (v : ℕ) → r ≡ rule.headOf (chordIn s v (now (notes .entry)) (now (chord .entry)))) ⌝ }
+    ensures { λ r. ⌜ ((s : List ℕ) (v : ℕ) → r ≡ rule.rowHead (chordIn s v (now (notes .entry)) (now (chord .entry)))) ⌝ }
 {
     let mut i: usize = 0;
     while i < chord.len() {
@@ -85,7 +85,7 @@ fn voiced_by(b: &Beat, notes: &Notes, chord: &[u32], v: u32) -> Voiced
     ensures played { λ r. ⌜ ((s : List ℕ) → playedIn s (r .played)
         ≡ rule.played rule.noPlay (chordIn s v (now (notes .entry)) (now (chord .entry)))) ⌝ }
     ensures marks { λ r. ⌜ ((s : List ℕ) → addMarks (addedIn (r .marks)) (rule.beatMarks (effectsIn v (now (b .entry))))
-        ≡ packed (rule.marksOf (effectsIn v (now (b .entry))) (chordIn s v (now (notes .entry)) (now (chord .entry))))) ⌝ }
+        ≡ packed (rule.rowArticulations (effectsIn v (now (b .entry))) (chordIn s v (now (notes .entry)) (now (chord .entry))))) ⌝ }
 {
     let harmonic = beat_harmonic(b, v);
     let mut played = NO_PLAY;
@@ -123,7 +123,7 @@ fn voiced_if(b: &Beat, notes: &Notes, chord: &[u32], v: u32) -> Voiced
     ensures played { λ r. ⌜ ((s : List ℕ) → playedIn s (r .played)
         ≡ rule.played rule.noPlay (chordIn s v (now (notes .entry)) (now (chord .entry)))) ⌝ }
     ensures marks { λ r. ⌜ ((s : List ℕ) → addMarks (addedIn (r .marks)) (rule.beatMarks (effectsIn v (now (b .entry))))
-        ≡ packed (rule.marksOf (effectsIn v (now (b .entry))) (chordIn s v (now (notes .entry)) (now (chord .entry))))) ⌝ }
+        ≡ packed (rule.rowArticulations (effectsIn v (now (b .entry))) (chordIn s v (now (notes .entry)) (now (chord .entry))))) ⌝ }
 {
     if beat_harmonic(b, v) | any_voiced(notes, chord) {
         return voiced_by(b, notes, chord, v);
@@ -138,7 +138,7 @@ pub(crate) fn voicing_of(b: &Beat, notes: &Notes, chord: &[u32], v: u32) -> Voic
     ensures played { λ r. ⌜ ((s : List ℕ) → playedIn s (r .played)
         ≡ rule.played rule.noPlay (chordIn s v (now (notes .entry)) (now (chord .entry)))) ⌝ }
     ensures marks { λ r. ⌜ ((s : List ℕ) → addedIn (r .marks)
-        ≡ packed (rule.marksOf (effectsIn v (now (b .entry))) (chordIn s v (now (notes .entry)) (now (chord .entry))))) ⌝ }
+        ≡ packed (rule.rowArticulations (effectsIn v (now (b .entry))) (chordIn s v (now (notes .entry)) (now (chord .entry))))) ⌝ }
 {
     let voiced = voiced_if(b, notes, chord, v);
     let played = voiced.played;

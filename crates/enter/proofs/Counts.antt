@@ -8,7 +8,7 @@ use lib.Count.{ones}
 use lib.Dec.{eqb}
 use lib.ListN.{length}
 use borrow.Author.Tests.{eqb-true}
-use Rattle.format.specs.Text.{Text, pick, noText}
+use Rattle.format.specs.Text.{TextRead, pick, noText}
 use Rattle.format.specs.Prog.{has}
 use Rattle.note.specs.declared.marks.NoteEffects.{NoteEffects}
 use Rattle.note.specs.Marks.{noMarks}
@@ -76,7 +76,7 @@ no-rooms strings k (x ∷ ns) u =
 
 no-text : (x : BeatIs) → x .text ≡ noText → hasText x ≡ false
 unfolding noText
-no-text x e = ap (λ (t : Text). x .head .kept && not (emptyBytes (t .bytes))) e ∙ by (x .head .kept)
+no-text x e = ap (λ (t : TextRead). x .head .kept && not (emptyBytes (t .bytes))) e ∙ by (x .head .kept)
   where
     by : (b : Bool) → (b && false) ≡ false
     by true = refl

@@ -11,7 +11,7 @@ use lib.Dec.{ltb, leb}
 use borrow.Author.Tests.{le-ltb, lt-ltb, le-leb, lt-leb, ltb-true, leb-true}
 use Rattle.format.specs.declared.Stop.{Stop}
 use Rattle.format.specs.declared.Stop.the-variants.{Ends}
-use Rattle.format.specs.Text.{Text, pick, textOf}
+use Rattle.format.specs.Text.{TextRead, pick, textOf}
 use Rattle.format.specs.Prog.{Prog, ret, refuse, byte, pass, text, Res, ok, stopped, run, bind}
 
 -- what comes after a part
@@ -33,7 +33,7 @@ run-bind (byte k) f s at =
 run-bind (pass n p) f s at =
     rw (run-bind p f s (at + n)) (pick-andThen (leb (at + n) (length s)) (run p s (at + n)) (stopped Ends) (λ a n. run (f a) s n))
 run-bind (text n k) f s at =
-    let t : Text = textOf at (take n (drop at s)) in
+    let t : TextRead = textOf at (take n (drop at s)) in
     rw (run-bind (k t) f s (at + n)) (pick-andThen (leb (at + n) (length s)) (run (k t) s (at + n)) (stopped Ends) (λ a n. run (f a) s n))
 
 -- two results that are never equal are no facts
@@ -66,11 +66,11 @@ module _ {A : Type 0} (s : List ℕ) (at : ℕ) where
   unfolding run
   pass-ends m p h = simp (lt-leb _ _ h)
 
-  pub text-goes : (m : ℕ) (k : Text → Prog A) → at + m ≤ length s → run (text m k) s at ≡ run (k (textOf at (take m (drop at s)))) s (at + m)
+  pub text-goes : (m : ℕ) (k : TextRead → Prog A) → at + m ≤ length s → run (text m k) s at ≡ run (k (textOf at (take m (drop at s)))) s (at + m)
   unfolding run
   text-goes m k h = simp (le-leb _ _ h)
 
-  pub text-ends : (m : ℕ) (k : Text → Prog A) → length s < at + m → run (text m k) s at ≡ stopped Ends
+  pub text-ends : (m : ℕ) (k : TextRead → Prog A) → length s < at + m → run (text m k) s at ≡ stopped Ends
   unfolding run
   text-ends m k h = simp (lt-leb _ _ h)
 
@@ -100,7 +100,7 @@ module _ {A : Type 0} (s : List ℕ) (at n : ℕ) (a : A) where
       let w = passed (leb (at + m) (length s)) (run p s (at + m)) a n e in
       (leb-true _ _ (w .0), w .1)
 
-  pub text-ok : (m : ℕ) (k : Text → Prog A) → run (text m k) s at ≡ ok a n → (at + m ≤ length s) × (run (k (textOf at (take m (drop at s)))) s (at + m) ≡ ok a n)
+  pub text-ok : (m : ℕ) (k : TextRead → Prog A) → run (text m k) s at ≡ ok a n → (at + m ≤ length s) × (run (k (textOf at (take m (drop at s)))) s (at + m) ≡ ok a n)
   unfolding run
   text-ok m k e =
       let w = passed (leb (at + m) (length s)) (run (k (textOf at (take m (drop at s)))) s (at + m)) a n e in

@@ -14,10 +14,10 @@ use Rattle.format.specs.declared.Place.{Place}
 use Rattle.format.specs.declared.Place.the-variants.{At, Stopped}
 use Rattle.format.specs.declared.Stop.{Stop}
 use Rattle.format.specs.declared.Stop.the-variants.{Ends}
-use Rattle.format.specs.Text.{Text, pick, blank, cutLen, leadLen, keepLen, keepNext, cut, trim, rangeOf, textOf, noText, textIn}
+use Rattle.format.specs.Text.{TextRead, pick, blank, cutLen, leadLen, keepLen, keepNext, cut, trim, rangeOf, textOf, noText, textIn}
 use Rattle.format.specs.Prog.{Prog, ret}
 use Rattle.format.specs.Place.{Gives}
-use Rattle.format.specs.Fields.{words}
+use Rattle.format.specs.Fields.{textBytes}
 use Rattle.format.specs.Yields.{Inside, OfFile}
 use Rattle.format.proofs.Run.{part-take, text-goes, text-ends, run-ret}
 use Rattle.format.proofs.Rules.{starting, still, returned-at, handing-none}
@@ -138,7 +138,7 @@ unfolding rangeOf
 range-bytes s start zero = slice-empty 0 s ∙ rw (add-zero start, slice-empty start s)
 range-bytes s start (suc k) = refl
 
-text-is : (r q : Range) (x y : List ℕ) → r ≡ q → x ≡ y → _≡_ {A = Text} (record { range = r; bytes = x }) (record { range = q; bytes = y })
+text-is : (r q : Range) (x y : List ℕ) → r ≡ q → x ≡ y → _≡_ {A = TextRead} (record { range = r; bytes = x }) (record { range = q; bytes = y })
 text-is r q x y e f = λ j. record { range = e j; bytes = f j }
 
 range-is : (a b u v : ℕ) → a ≡ u → b ≡ v → _≡_ {A = Range} (record { start = a; end = b }) (record { start = u; end = v })
@@ -175,8 +175,8 @@ module _ (s : List ℕ) (at n end start stop : ℕ) (f : at + n ≤ length s) (h
       (text-is (rangeOf start (stop - start)) (rangeOf start (stop - start)) (slice start stop s) (textIn s (rangeOf start (stop - start)) .bytes) refl
       (sym (range-bytes s start (stop - start) ∙ rw j)))
 
-  pub words-goes : {from : Place} {r : Range} → from ≡ At at → r ≡ rangeOf start (stop - start) → Gives (words n) noText s from (textIn s r) (At (at + n))
-  unfolding words
+  pub words-goes : {from : Place} {r : Range} → from ≡ At at → r ≡ rangeOf start (stop - start) → Gives (textBytes n) noText s from (textIn s r) (At (at + n))
+  unfolding textBytes
   words-goes e g =
       rw g (returned-at (starting e (record { reaches = text-goes s at n (λ t. ret t) f ∙ run-ret s (at + n) (textOf at (take n (drop at s))) ∙ rw text-between })))
 
@@ -185,11 +185,11 @@ pub none-in : (s : List ℕ) → textIn s (record { start = 0; end = 0 }) ≡ no
 unfolding noText
 none-in s = text-is _ _ _ _ refl (slice-empty 0 s)
 
-pub words-ends : {s : List ℕ} {from : Place} {at : ℕ} → from ≡ At at → (n : ℕ) → length s < at + n → Gives (words n) noText s from (textIn s (record { start = 0; end = 0 })) (Stopped Ends)
-unfolding words
+pub words-ends : {s : List ℕ} {from : Place} {at : ℕ} → from ≡ At at → (n : ℕ) → length s < at + n → Gives (textBytes n) noText s from (textIn s (record { start = 0; end = 0 })) (Stopped Ends)
+unfolding textBytes
 words-ends {s} {from} {at} e n h = handing-none (none-in s) (starting e (record { reaches = text-ends s at n (λ t. ret t) h }))
 
-pub text-still : {p : Prog Text} {s : List ℕ} {at : Place} {x : Stop} → at ≡ Stopped x → Gives p noText s at (textIn s (record { start = 0; end = 0 })) at
+pub text-still : {p : Prog TextRead} {s : List ℕ} {at : Place} {x : Stop} → at ≡ Stopped x → Gives p noText s at (textIn s (record { start = 0; end = 0 })) at
 text-still {s = s} e = handing-none (none-in s) (still e)
 
 -- ---- a text is one of its file

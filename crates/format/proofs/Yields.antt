@@ -12,7 +12,7 @@ use Rattle.format.specs.declared.Stop.{Stop}
 use Rattle.format.specs.declared.Counted.{Counted}
 use Rattle.format.specs.Text.{pick, textOf, noText}
 use Rattle.format.specs.Prog.{Prog, ret, refuse, Res, ok, stopped, run, bind, turns, whenLe, whenEq, whenBits}
-use Rattle.format.specs.Fields.{u8, number, skip, words, limitOf, counted, count}
+use Rattle.format.specs.Fields.{u8, number, skip, textBytes, limitOf, counted, count}
 use Rattle.format.specs.Fields.{stringOf, fixedString, intByteStringUnused, intByteString}
 use Rattle.format.specs.Yields.{Yields, Onward, Bytes, OfFile}
 use Rattle.format.proofs.Run.{andThen, run-bind, clash, ret-ok, refuse-ok, byte-ok, pass-ok, text-ok, run-within}
@@ -94,8 +94,8 @@ module _ {s : List ℕ} {at : ℕ} where
   unfolding skip
   yield-skip k = record { yields = λ l a n e. sym (ret-ok s (at + k) n a tt (pass-ok s at n a k (ret tt) e .1) .1) }
 
-  pub yield-words : (k : ℕ) → Yields s (words k) at (λ t _. OfFile s t)
-  unfolding words
+  pub yield-words : (k : ℕ) → Yields s (textBytes k) at (λ t _. OfFile s t)
+  unfolding textBytes
   yield-words k = record {
     yields = λ l t n e.
         let w = text-ok s at n t k (λ x. ret x) e in

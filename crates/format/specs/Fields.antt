@@ -4,7 +4,7 @@ use lib.Dec.{leb}
 use Rattle.format.specs.declared.Counted.{Counted}
 use Rattle.format.specs.declared.Counted.the-variants as C
 use Rattle.format.specs.declared.Stop.the-variants as S
-use Rattle.format.specs.Text.{Text, pick}
+use Rattle.format.specs.Text.{TextRead, pick}
 use Rattle.format.specs.Prog.{Prog, ret, refuse, byte, pass, text, bind, whenLe}
 
 unfoldable pub u8 : Prog ℕ
@@ -24,8 +24,8 @@ u32 = number 4
 unfoldable pub skip : ℕ → Prog Unit
 skip n = pass n (ret tt)
 
-unfoldable pub words : ℕ → Prog Text
-words n = text n (λ t. ret t)
+unfoldable pub textBytes : ℕ → Prog TextRead
+textBytes n = text n (λ t. ret t)
 
 -- the first 32-bit number that is negative
 abbrev pub NEGATIVE : ℕ
@@ -61,29 +61,29 @@ abbrev pub MAXSTRING : ℕ
 MAXSTRING = 1048576
 
 -- a length that is over the limit, or negative, is refused before its bytes are sought; then its bytes, kept or passed over
-unfoldable pub stringOf : ℕ → Prog Text
-stringOf n = whenLe n MAXSTRING (words n) (refuse S.Text)
+unfoldable pub stringOf : ℕ → Prog TextRead
+stringOf n = whenLe n MAXSTRING (textBytes n) (refuse S.Text)
 
 unfoldable pub stringPast : ℕ → Prog Unit
 stringPast n = whenLe n MAXSTRING (skip n) (refuse S.Text)
 
 -- a length byte and a field of fixed width; its bytes past the stated length are passed over
-unfoldable pub fixedString : ℕ → Prog Text
+unfoldable pub fixedString : ℕ → Prog TextRead
 fixedString width =
-    bind u8 (λ n. whenLe n width (bind (words n) (λ t. bind (skip (width - n)) (λ _. ret t))) (words width))
+    bind u8 (λ n. whenLe n width (bind (textBytes n) (λ t. bind (skip (width - n)) (λ _. ret t))) (textBytes width))
 
 unfoldable pub fixedStringPast : ℕ → Prog Unit
 fixedStringPast width = bind (skip 1) (λ _. skip width)
 
 -- a field size that is not used, a length byte, the text
-unfoldable pub intByteStringUnused : Prog Text
-intByteStringUnused = bind (skip 4) (λ _. bind u8 words)
+unfoldable pub intByteStringUnused : Prog TextRead
+intByteStringUnused = bind (skip 4) (λ _. bind u8 textBytes)
 
 unfoldable pub intByteStringUnusedPast : Prog Unit
 intByteStringUnusedPast = bind (skip 4) (λ _. bind u8 skip)
 
 -- a length, the text
-unfoldable pub intString : Prog Text
+unfoldable pub intString : Prog TextRead
 intString = bind u32 stringOf
 
 unfoldable pub intStringPast : Prog Unit
@@ -94,7 +94,7 @@ unfoldable pub lessOne : ℕ → ℕ
 lessOne size = pick (leb NEGATIVE size) 0 (size - 1)
 
 -- a size, a length byte that is passed over, the text of size less one
-unfoldable pub intByteString : Prog Text
+unfoldable pub intByteString : Prog TextRead
 intByteString = bind u32 (λ size. bind (skip 1) (λ _. stringOf (lessOne size)))
 
 unfoldable pub intByteStringPast : Prog Unit

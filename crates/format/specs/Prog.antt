@@ -7,7 +7,7 @@ use lib.Dec.{ltb, leb, eqb}
 use lib.Bits.{bitAnd}
 use Rattle.format.specs.declared.Stop.{Stop}
 use Rattle.format.specs.declared.Stop.the-variants.{Ends}
-use Rattle.format.specs.Text.{Text, pick, textOf}
+use Rattle.format.specs.Text.{TextRead, pick, textOf}
 
 -- what is read next: nothing, for here is the result; nothing, for the file is refused; a byte that is kept;
 -- n bytes that are passed over; n bytes of text, of which is kept what is left after the cut and the trim
@@ -16,7 +16,7 @@ pub data Prog (A : Type 0) : Type 0 where
   refuse : Stop → Prog A
   byte : (ℕ → Prog A) → Prog A
   pass : ℕ → Prog A → Prog A
-  text : ℕ → (Text → Prog A) → Prog A
+  text : ℕ → (TextRead → Prog A) → Prog A
 
 -- the result and where it ends, or why there is none
 pub data Res (A : Type 0) : Type 0 where

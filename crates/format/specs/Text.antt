@@ -8,7 +8,7 @@ use lib.Dec.{leb, eqb}
 use Rattle.format.specs.declared.Range.{Range}
 
 -- what is left of a text, and where it stands in the file
-pub record Text : Type 0 where
+pub record TextRead : Type 0 where
   pub range : Range
   pub bytes : List ℕ
 
@@ -51,12 +51,12 @@ rangeOf start zero = record { start = 0; end = 0 }
 rangeOf start (suc n) = record { start = start; end = start + suc n }
 
 -- the text of the bytes l that stand at a position of the file
-unfoldable pub textOf : ℕ → List ℕ → Text
+unfoldable pub textOf : ℕ → List ℕ → TextRead
 textOf at l = record { range = rangeOf (at + leadLen (cut l)) (length (trim (cut l))); bytes = trim (cut l) }
 
-unfoldable pub noText : Text
+unfoldable pub noText : TextRead
 noText = record { range = record { start = 0; end = 0 }; bytes = [] }
 
 -- the text whose range is known, of a file
-abbrev pub textIn : List ℕ → Range → Text
+abbrev pub textIn : List ℕ → Range → TextRead
 textIn s r = record { range = r; bytes = slice (r .start) (r .end) s }

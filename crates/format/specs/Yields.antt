@@ -4,7 +4,7 @@ use mathlib.Core.Path.{_≡_}
 use mathlib.Core.List.{List}
 use lib.ListN.{length, getD}
 use Rattle.format.specs.declared.Range.{Range}
-use Rattle.format.specs.Text.{Text, textIn}
+use Rattle.format.specs.Text.{TextRead, textIn}
 use Rattle.format.specs.Prog.{Prog, ok, run}
 
 -- At a position of the file s, Q holds of all that p gives and of where it ends. A record and no bare function, so that
@@ -26,6 +26,6 @@ pub record Inside (size : ℕ) (r : Range) : Type 0 where
   pub ends : r .end ≤ size
 
 -- a text whose bytes are those of its range
-pub record OfFile (s : List ℕ) (t : Text) : Type 0 where
+pub record OfFile (s : List ℕ) (t : TextRead) : Type 0 where
   pub is : t ≡ textIn s (t .range)
   pub inside : Inside (length s) (t .range)

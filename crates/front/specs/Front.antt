@@ -6,14 +6,14 @@ use Rattle.format.specs.Prog.{Prog, ret, bind}
 use Rattle.header.specs.Header.{header}
 use Rattle.track.specs.Track.{track}
 use Rattle.score.specs.declared.Before.{Before}
-use Rattle.score.specs.File.{Song, Timed}
+use Rattle.score.specs.File.{Opening, Timed}
 use Rattle.score.specs.Page.{Heads, Staves, addHeader, addTrack}
 use Rattle.front.specs.declared.SongRead.{SongRead}
 use Rattle.words.specs.Words.{Words, words}
 use Rattle.words.specs.Heads.{headsOf, directing}
 
 -- the channel table stands beside what was read
-abbrev pub songOf : SongRead → List (List ℕ) → Song
+abbrev pub songOf : SongRead → List (List ℕ) → Opening
 songOf r programs =
     record {
       version = r .version;

@@ -25,7 +25,7 @@ pub struct SongRead {
 }
 
 pub fn song_at(s: &[u8], from: Place, programs: &mut [[u8; 16]; 4]) -> SongRead
-    ensures { λ r. ⌜ Reaches file.song (now (s .entry)) from (songOf r (now (programs .exit))) (r .next) ⌝ }
+    ensures { λ r. ⌜ Reaches file.opening (now (s .entry)) from (songOf r (now (programs .exit))) (r .next) ⌝ }
 {
     let version = song::version::version_at(s, from);
     let v = version.value;

@@ -11,7 +11,7 @@ use Rattle.model.specs.declared.Mode.{Mode}
 use Rattle.model.specs.declared.Mode.the-variants.{Major, Minor}
 use Rattle.model.specs.declared.Key.{Key}
 use Rattle.model.specs.declared.Key.the-variants.{NoKey, Fifths}
-use Rattle.format.specs.Text.{Text, noText, pick}
+use Rattle.format.specs.Text.{TextRead, noText, pick}
 use Rattle.format.specs.Prog.{Prog, ret, refuse, bind, whenLe, whenEq, whenBits, has}
 use Rattle.format.specs.Fields.{u8, skip, count, intByteString}
 use Rattle.song.specs.Info.{noRange}
@@ -62,7 +62,7 @@ unfoldable pub endingByte : ℕ → ℕ → Prog ℕ
 endingByte v flags = whenLe 500 v (ret 0) (whenBits flags 0x10 u8 (ret 0))
 
 -- a marker (flag 0x20); its colour is passed over: "every byte a `skip` passes"
-unfoldable pub marker : ℕ → Prog Text
+unfoldable pub marker : ℕ → Prog TextRead
 marker flags = whenBits flags 0x20 (bind intByteString (λ t. bind (skip 4) (λ _. ret t))) (ret noText)
 
 -- a number of fifths held to -7..7, as a two's complement byte
@@ -78,8 +78,8 @@ unfoldable pub key : ℕ → Prog Key
 key flags = whenBits flags 0x40 (bind u8 (λ k. bind u8 (λ m. ret (Fifths (fifthsOf k) (modeOf m))))) (ret NoKey)
 
 -- what stands between the time and the tail, in the file's order
-unfoldable pub marks : ℕ → ℕ → Prog Marks
-marks v flags =
+unfoldable pub headerMarks : ℕ → ℕ → Prog Marks
+headerMarks v flags =
     bind (repeatCount flags) (λ times.
     bind (endingByte v flags) (λ byte.
     bind (marker flags) (λ name.
@@ -92,8 +92,8 @@ unfoldable pub beams : ℕ → Prog Unit
 beams flags = whenBits flags 0x03 (skip 4) (ret tt)
 
 -- the endings' mask and the triplet feel, which is a loss; passed over: "a header's last byte (v500 on)"
-unfoldable pub tail : ℕ → ℕ → Prog Tail
-tail v flags =
+unfoldable pub headerTail : ℕ → ℕ → Prog Tail
+headerTail v flags =
     whenLe 500 v
     (bind (beams flags) (λ _.
     bind u8 (λ mask.
@@ -153,6 +153,6 @@ unfoldable pub header : ℕ → Time → Prog Header
 header v before =
     bind u8 (λ flags.
     bind (time flags before) (λ t.
-    bind (marks v flags) (λ m.
-    bind (tail v flags) (λ rest.
+    bind (headerMarks v flags) (λ m.
+    bind (headerTail v flags) (λ rest.
     ret (headerOf v flags t m rest)))))

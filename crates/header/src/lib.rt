@@ -250,7 +250,7 @@ fn key_at(s: &[u8], from: Place, flags: u8) -> KeyRead
 }
 
 fn marks_at(s: &[u8], from: Place, v: u32, flags: u8) -> MarksRead
-    ensures { λ r. ⌜ Reaches (head.marks v flags) (now (s .entry)) from (r .marks) (r .next) ⌝ }
+    ensures { λ r. ⌜ Reaches (head.headerMarks v flags) (now (s .entry)) from (r .marks) (r .next) ⌝ }
 {
     let times = byte_where(s, from, flags, 0x08, 0);
     let at = times.next;
@@ -284,7 +284,7 @@ fn beams_at(s: &[u8], from: Place, flags: u8) -> Place
 }
 
 fn tail_at(s: &[u8], from: Place, v: u32, flags: u8) -> TailRead
-    ensures { λ r. ⌜ Reaches (head.tail v flags) (now (s .entry)) from (r .tail) (r .next) ⌝ }
+    ensures { λ r. ⌜ Reaches (head.headerTail v flags) (now (s .entry)) from (r .tail) (r .next) ⌝ }
 {
     if v < 500 {
         return TailRead {

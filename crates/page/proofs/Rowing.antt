@@ -21,7 +21,7 @@ use Rattle.score.specs.declared.Kept.{Kept}
 use Rattle.score.specs.declared.Voice.{Voice}
 use Rattle.score.specs.Members.{Keyed, Graced, graces}
 use Rattle.score.specs.Rows.{RowIs, curveOf, graceRow, graceRows, beatRow, rowsOf}
-use Rattle.score.specs.Page.{Kind, Tables, Rowing, fingered, rowEntry, ottavaMarks, turnHammer, turnRun, startTies}
+use Rattle.score.specs.Page.{Kind, Operations, Rowing, fingered, rowEntry, ottavaMarks, turnHammer, turnRun, startTies}
 use Rattle.score.specs.Page.{keepRow, keepRows}
 use Rattle.draft.specs.declared.Draft.{Draft}
 use Rattle.draft.specs.declared.graces.Graces.{Graces}
@@ -98,13 +98,13 @@ module _ (s : List ℕ) (kept : Kept) (voice : Voice) (rows members points : Lis
 
 -- ---- the row of graces
 module _ (place : Place) (board : Fretboard) (flat : Bool) where
-  pub no-graces : {T : Kind → Type 0} (the : Tables T) (gs : List Graced) (w : Rowing T) {x : Graces} → x ≡ gracesOf gs
+  pub no-graces : {T : Kind → Type 0} (the : Operations T) (gs : List Graced) (w : Rowing T) {x : Graces} → x ≡ gracesOf gs
       → x .any ≡ false
       → w ≡ keepRows the (graceRows place board flat gs) w
   no-graces the [] w e none = refl
   no-graces the (g ∷ gs) w e none = absurd (true≢false (rw e at none))
 
-  some-graces : {T : Kind → Type 0} (the : Tables T) (gs : List Graced) (w : Rowing T) → anyOf gs ≡ true
+  some-graces : {T : Kind → Type 0} (the : Operations T) (gs : List Graced) (w : Rowing T) → anyOf gs ≡ true
       → keepRow the (graceRow place board flat gs) w ≡ keepRows the (graceRows place board flat gs) w
   some-graces the [] w any = absurd (true≢false (sym any))
   some-graces the (g ∷ gs) w any = refl
@@ -129,7 +129,7 @@ module _ (place : Place) (board : Fretboard) (flat : Bool) where
       ∙ some-graces (words s) gs (rowingOf rows members points kept voice) (rw ex at any)
 
 -- ---- the rows of a beat
-pub both-rows : {T : Kind → Type 0} (the : Tables T) (place : Place) (board : Fretboard) (flat : Bool) (running : ℕ) (b : BeatIs)
+pub both-rows : {T : Kind → Type 0} (the : Operations T) (place : Place) (board : Fretboard) (flat : Bool) (running : ℕ) (b : BeatIs)
     (xs : List Keyed) (w : Rowing T)
     → keepRows the (rowsOf place board flat running b xs) w
     ≡ keepRow the (beatRow place board flat running b xs) (keepRows the (graceRows place board flat (graces xs)) w)

@@ -31,7 +31,7 @@ use Rattle.score.specs.declared.Voice.{Voice}
 use Rattle.score.specs.Losses.{isRest}
 use Rattle.score.specs.Members.{Keyed, memberOf}
 use Rattle.score.specs.Page.{spanOf, fingered, dynamicAt, rowEntry, pulls, runAfter, turnHammer, turnRun, startTies, keepRow}
-use Rattle.score.specs.Rows.{RowIs, headOf}
+use Rattle.score.specs.Rows.{RowIs, rowHead}
 use Rattle.words.specs.Words.{LARGEST, wordPlus, words}
 use Rattle.words.specs.Meant.{rowingOf}
 use Rattle.words.specs.Voices.{withHammer, withLast, withRun}
@@ -103,7 +103,7 @@ module _ (place : Place) (board : Fretboard) (flat : Bool) (mark : Level) (b : B
       → actual ≡ actualWord (b .head .tuplet)
       → normal ≡ normalWord (b .head .tuplet)
       → dynamic ≡ dynamicWord (dynamicAt mark)
-      → head ≡ noteHeadWord (headOf xs)
+      → head ≡ noteHeadWord (rowHead xs)
       → finger ≡ fingerWord (company .finger)
       → r ≡ sets rows (kept .rows * rowStride) (rowWords (rowEntry (row xs) noMarks kept))
   unfolding rowWords frontWords backWords rowEntry plainRow curveHeight

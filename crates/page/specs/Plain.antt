@@ -14,7 +14,7 @@ use Rattle.beat.specs.Beat.{BeatIs}
 use Rattle.score.specs.declared.Fretboard.{Fretboard}
 use Rattle.score.specs.Losses.{isRest}
 use Rattle.score.specs.Members.{Keyed, memberOf}
-use Rattle.score.specs.Rows.{RowIs, valueOf, headOf}
+use Rattle.score.specs.Rows.{RowIs, valueOf, rowHead}
 
 -- no ottava starts or ends at it
 abbrev pub noMarks : OttavaMarks
@@ -35,7 +35,7 @@ plainRow place board flat mark b xs =
       dynamic = mark;
       articulations = packed [];
       arpeggio = NoArpeggio;
-      head = headOf xs;
+      head = rowHead xs;
       ottava = NoOttava;
       chord = record { start = 0; end = 0 };
     }

@@ -8,7 +8,7 @@ use lib.ListN.{length}
 use Rattle.format.specs.declared.Place.{Place}
 use Rattle.format.specs.declared.Place.the-variants.{At, Stopped}
 use Rattle.format.specs.declared.Stop.{Stop}
-use Rattle.format.specs.Outcome.{LIMIT, upTo}
+use Rattle.format.specs.Verdict.{LIMIT, upTo}
 use Rattle.format.specs.Yields.{Bytes}
 use Rattle.model.specs.declared.Answer.{Answer}
 use Rattle.model.specs.declared.Sizes.{Sizes}

@@ -17,7 +17,7 @@ use Rattle.score.specs.Bars.{unsupported, otherSigns}
 use Rattle.score.specs.declared.Before.{Before}
 use Rattle.score.specs.declared.Tally.{Tally}
 use Rattle.score.specs.File as File
-use Rattle.score.specs.File.{Song, oneHeader, headers, oneTrack, tracks, oneBeat, voice, barTrack, bar, bars}
+use Rattle.score.specs.File.{Opening, oneHeader, headers, oneTrack, tracks, oneBeat, voice, barTrack, bar, bars}
 use Rattle.score.specs.Page.{Staves, Walk, report, keeping, noBars, noTracks, noBeats, addHeader, addTrack}
 use Rattle.words.specs.Words.{Words, words}
 use Rattle.words.specs.Counted.{passing}
@@ -30,7 +30,7 @@ use Rattle.front.specs.Front.{songOf, timedOf, headerStep, trackStep}
 use Rattle.reader.specs.Started.{beforeBars, beforeBeats}
 use Rattle.walk.specs.Entering.{entering}
 
-module _ (counting : Bool) (s : List ℕ) (t : Lent) (g : Song) where
+module _ (counting : Bool) (s : List ℕ) (t : Lent) (g : Opening) where
   pub headers-are : turns (g .counts .bars) 0 (headerStep (g .version) (g .directions)) (timedOf commonTime (t .bars) beforeBars (report (words []) (reportIf (g .swing) TripletFeel ++ reported (unsupported (g .directions) otherSigns) UnsupportedDirection) (replicate 17 0)))
       ≡ headers (passing counting (keeping (words s) (lent t))) g
   unfolding headers oneHeader noBars addHeader
@@ -48,7 +48,7 @@ module _ (counting : Bool) (s : List ℕ) (t : Lent) (g : Song) where
 module _ (counting : Bool) (s : List ℕ) {bars tracks rows members points texts parts : List ℕ} where
   pub passes : {song : SongRead} {programs : List (List ℕ)} {time : Time} {before later : Before} {lost lost2 lost3 : List ℕ} {tally tally2 : Tally}
       {bars2 bars3 tracks2 rows2 members2 points2 texts2 parts2 parts3 : List ℕ} {at at2 at3 at4 : Place}
-      → Reaches File.song s (At 0) (songOf song programs) at
+      → Reaches File.opening s (At 0) (songOf song programs) at
       → before ≡ beforeBars → lost ≡ report (words []) (reportIf (song .swing) TripletFeel ++ reported (unsupported (song .directions) otherSigns) UnsupportedDirection) (replicate 17 0)
       → Reaches (turns (song .counts .bars) 0 (headerStep (song .version) (song .directions)) (timedOf commonTime bars before lost)) s at (timedOf time bars2 later lost2) at2
       → Reaches (turns (song .counts .tracks) 0 (trackStep (song .version) programs) (stavesOf tracks parts lost2)) s at2 (stavesOf tracks2 parts2 lost3) at3
@@ -58,7 +58,7 @@ module _ (counting : Bool) (s : List ℕ) {bars tracks rows members points texts
   unfolding File.file File.score noTracks noBeats
   passes {song} {programs} {lost3 = lost3} {parts2 = parts2} a e f h u g w =
       let t : Lent = lentOf bars tracks rows members points texts parts in
-      let x : Song = songOf song programs in
+      let x : Opening = songOf song programs in
       record {
         programs = programs;
         parts = parts2;

@@ -5,7 +5,7 @@ use model::Answer;
 use model::Outcome;
 use pass::Passed;
 ghost use mathlib.Core.Path.{_≡_};
-ghost use Rattle.format.specs.Outcome.{upTo};
+ghost use Rattle.format.specs.Verdict.{upTo};
 ghost use Rattle.score.specs.Reading.{reading};
 ghost use Rattle.reader.specs.Answered.{tables};
 ghost use Rattle.reader.specs.Result.{result, FirstPass, Fills};

@@ -5,7 +5,7 @@ use mathlib.Core.Bool.{Bool, true, false}
 use mathlib.Core.List.{List, [], _∷_, _++_}
 use native.Mathlib.Omega.{arith}
 use lib.ListN.{length, getD, length-append}
-use Rattle.format.specs.Outcome.{LIMIT}
+use Rattle.format.specs.Verdict.{LIMIT}
 use Rattle.format.specs.Text.{pick}
 use Rattle.format.specs.Yields.{OfFile}
 use Rattle.model.specs.declared.Loss.{Loss}
@@ -15,8 +15,8 @@ use Rattle.beat.specs.Beat.{BeatIs}
 use Rattle.score.specs.declared.Part.{Part}
 use Rattle.score.specs.declared.Voice.{Voice}
 use Rattle.score.specs.Bars.{noBar}
-use Rattle.score.specs.File.{Song}
-use Rattle.score.specs.Page.{Kind, texts, parts, TextIs, Tables, Walk, Rowing, bendRooms}
+use Rattle.score.specs.File.{Opening}
+use Rattle.score.specs.Page.{Kind, texts, parts, TextIs, Operations, Walk, Rowing, bendRooms}
 use Rattle.score.specs.Page.{hasText, report, keepText, textsAfter}
 use Rattle.score.specs.Score.{Lists, lists, withVoice, withRunning}
 use Rattle.score.proofs.Facts.{BeatFacts}
@@ -37,7 +37,7 @@ use Rattle.refine.proofs.Shown.{shown, pick-shows, pick-both, add-shows
 abbrev pub textFor : (bar track : ℕ) → BeatIs → TextIs
 textFor bar track b = record { bar = bar; track = track; text = b .text }
 
-module _ {T : Kind → Type 0} (the : Tables T) where
+module _ {T : Kind → Type 0} (the : Operations T) where
   unfoldable pub afterRows : (bar track voice : ℕ) → BeatIs → Rowing T → ℕ → List Loss → Walk T → Walk T
   afterRows bar track voice b kept running ls w =
       record {
@@ -175,7 +175,7 @@ module _ (s : List ℕ) (t : Lent) where
 
 -- ---- the walk after them
 
-module _ (s : List ℕ) (short : length s ≤ LIMIT) (t : Lent) (g : Song) (bar track voice at n : ℕ) (x : BeatIs)
+module _ (s : List ℕ) (short : length s ≤ LIMIT) (t : Lent) (g : Opening) (bar track voice at n : ℕ) (x : BeatIs)
     (f : BeatFacts s at x n) (w : Walk Lists) (y : Walk Words) (h : WalkShown s t g w y at)
     (k : Rowing Lists) (l : Rowing Words) (b : BeatKept s t w y (bendRooms (x .strings) 0 (x .notes)) k l)
     (running : ℕ) (ls : List Loss) where

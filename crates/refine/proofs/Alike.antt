@@ -11,7 +11,7 @@ use Rattle.score.specs.declared.OttavaRun.{OttavaRun}
 use Rattle.score.specs.declared.OttavaRun.the-variants.{NoRun, Over}
 use Rattle.score.specs.declared.Part.{Part}
 use Rattle.score.specs.declared.Voice.{Voice}
-use Rattle.score.specs.File.{Song}
+use Rattle.score.specs.File.{Opening}
 use Rattle.score.specs.Page.{bars, tracks, rows, members, points, texts, parts, Heads, Staves, Walk}
 use Rattle.score.specs.Score.{Lists}
 use Rattle.words.specs.Lent.{Lent}
@@ -92,7 +92,7 @@ module _ (s : List ℕ) (t : Lent) where
 
   -- a table that is short may be loaded wrongly (flat preference, ties, repeated texts), so the tables are shown only
   -- where there is room; no number, memory, room or loss depends on them
-  pub record WalkShown (g : Song) (x : Walk Lists) (y : Walk Words) (at : ℕ) : Type 0 where
+  pub record WalkShown (g : Opening) (x : Walk Lists) (y : Walk Words) (at : ℕ) : Type 0 where
     pub bars-number : length (x .bars) ≡ g .counts .bars
     pub parts-number : length (x .parts) ≡ g .counts .tracks
     pub parts : y .parts ≡ shown parts (t .parts) (x .parts)

@@ -5,18 +5,18 @@ use mathlib.Core.Bool.{Bool, true, false}
 use mathlib.Core.List.{List, []}
 use native.Mathlib.Omega.{arith}
 use lib.ListN.{length, getD}
-use Rattle.format.specs.Outcome.{LIMIT}
+use Rattle.format.specs.Verdict.{LIMIT}
 use Rattle.format.specs.Text.{pick}
 use Rattle.model.specs.declared.Place.{Place}
 use Rattle.beat.specs.Beat.{BeatIs}
 use Rattle.score.specs.declared.Fretboard.{Fretboard}
 use Rattle.score.specs.declared.Part.{Part}
 use Rattle.score.specs.declared.Voice.{Voice}
-use Rattle.score.specs.File.{Song}
+use Rattle.score.specs.File.{Opening}
 use Rattle.score.specs.Members.{Keyed, inOrder}
 use Rattle.score.specs.Rows.{RowIs, rowsOf}
 use Rattle.score.specs.Sounding.{Sounding, sounding, remember}
-use Rattle.score.specs.Page.{Kind, Tables, Walk, Rowing, bendRooms, withFrets}
+use Rattle.score.specs.Page.{Kind, Operations, Walk, Rowing, bendRooms, withFrets}
 use Rattle.score.specs.Page.{keepRows, runningAfter, beatLosses, addBeat}
 use Rattle.score.specs.Score.{Lists, lists, noPart, voiceOf}
 use Rattle.score.proofs.Facts.{BeatFacts, CountsFacts}
@@ -43,7 +43,7 @@ rowsFor place board flat running b xs = pick (b .head .kept) (rowsOf place board
 abbrev placeOf : (bar track voice : ℕ) → Place
 placeOf bar track voice = record { bar = bar; track = track; voice = voice }
 
-module _ {T : Kind → Type 0} (the : Tables T) where
+module _ {T : Kind → Type 0} (the : Operations T) where
   abbrev rowing : Voice → Walk T → Rowing T
   rowing v w = record { rows = w .rows; members = w .members; points = w .points; kept = w .tally .kept; voice = v }
 
@@ -81,7 +81,7 @@ voice-within : (i m n : ℕ) (p : Part) → PartWithin i m p → VoiceWithin i m
 voice-within i m zero p f = f .first
 voice-within i m (suc n) p f = f .second
 
-module _ (s : List ℕ) (short : length s ≤ LIMIT) (t : Lent) (g : Song) (bar track voice at n : ℕ) (x : BeatIs)
+module _ (s : List ℕ) (short : length s ≤ LIMIT) (t : Lent) (g : Opening) (bar track voice at n : ℕ) (x : BeatIs)
     (f : BeatFacts s at x n) (w : Walk Lists) (y : Walk Words) (h : WalkShown s t g w y at)
     (inside : track < length (w .parts)) where
   abbrev board : Fretboard
@@ -200,7 +200,7 @@ module _ (s : List ℕ) (short : length s ≤ LIMIT) (t : Lent) (g : Song) (bar 
 -- ---- a beat
 
 module _ (s : List ℕ) (short : length s ≤ LIMIT) (t : Lent) (own : 100 * partStride ≤ length (t .parts)) where
-  pub beat-shown : (g : Song) → CountsFacts (g .counts) → (b track voice at n : ℕ) → track < g .counts .tracks
+  pub beat-shown : (g : Opening) → CountsFacts (g .counts) → (b track voice at n : ℕ) → track < g .counts .tracks
       → b < g .counts .bars → (x : BeatIs) → BeatFacts s at x n
       → (w : Walk Lists) (y : Walk Words) → WalkShown s t g w y at
       → WalkShown s t g (addBeat lists b track voice x w) (addBeat (words s) b track voice x y) n
@@ -217,7 +217,7 @@ module _ (s : List ℕ) (short : length s ≤ LIMIT) (t : Lent) (own : 100 * par
       (added-shown s short t g b track voice at n x f w y h inside j i)
 
 -- a state that is shown up to a position is shown up to a later one
-pub walk-later : {s : List ℕ} {t : Lent} {g : Song} {w : Walk Lists} {y : Walk Words} {at m : ℕ}
+pub walk-later : {s : List ℕ} {t : Lent} {g : Opening} {w : Walk Lists} {y : Walk Words} {at m : ℕ}
     → WalkShown s t g w y at → at ≤ m → WalkShown s t g w y m
 walk-later {w = w} {at = at} {m = m} h l =
     record {

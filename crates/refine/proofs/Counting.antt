@@ -11,7 +11,7 @@ use lib.Dec.{eqb, ltb}
 use lib.ListN.{length, getD, set, length-map, length-append}
 use lib.Seq.{sets, getD-set-other}
 use Rattle.format.specs.declared.Stop.{Stop}
-use Rattle.format.specs.Outcome.{LIMIT, upTo}
+use Rattle.format.specs.Verdict.{LIMIT, upTo}
 use Rattle.format.specs.Prog.{Res, ok, stopped, run}
 use Rattle.format.specs.Text.{pick}
 use Rattle.format.specs.Yields.{Bytes}
@@ -31,7 +31,7 @@ use Rattle.score.specs.declared.Voice.{Voice}
 use Rattle.score.specs.File.{file}
 use Rattle.score.proofs.Follow.{Relations, Alike, Agreed, Both, alike, upto-bytes}
 use Rattle.score.specs.Sounding.{Sounding, sounds, soundingAt, soundingFrom, sounding, remember}
-use Rattle.score.specs.Members.{Keyed, keyed, place, ordered, inOrder, Graced, gracedAfter, graces}
+use Rattle.score.specs.Members.{Keyed, keyed, putIn, ordered, inOrder, Graced, gracedAfter, graces}
 use Rattle.score.specs.Rows.{RowIs, restRow, chordRow, graceRow, graceRows, beatRow, rowsOf}
 use Rattle.score.specs.Page.{Heads, Staves, Walk, Rowing, keeping, keepRow, keepRows, keepBeat, enterBar, addBeat, withFrets}
 use Rattle.words.specs.Lent.{Lent, lent}
@@ -49,18 +49,18 @@ module _ (each : NoteIs → ℕ) where
   sum [] = 0
   sum (x ∷ xs) = each (x .sound .note) + sum xs
 
-  sum-place : (x : Keyed) (ys : List Keyed) → sum (place x ys) ≡ each (x .sound .note) + sum ys
+  sum-place : (x : Keyed) (ys : List Keyed) → sum (putIn x ys) ≡ each (x .sound .note) + sum ys
   sum-place x [] = refl
   sum-place x (y ∷ ys) = go (ltb (x .key) (y .key)) (sum-place x ys)
     where
-      go : (t : Bool) → sum (place x ys) ≡ each (x .sound .note) + sum ys
-          → sum (pick t (x ∷ y ∷ ys) (y ∷ place x ys)) ≡ each (x .sound .note) + (each (y .sound .note) + sum ys)
+      go : (t : Bool) → sum (putIn x ys) ≡ each (x .sound .note) + sum ys
+          → sum (pick t (x ∷ y ∷ ys) (y ∷ putIn x ys)) ≡ each (x .sound .note) + (each (y .sound .note) + sum ys)
       go true e = refl
       go false e = omega (arith, e)
 
   sum-ordered : (done xs : List Keyed) → sum (ordered done xs) ≡ sum done + sum xs
   sum-ordered done [] = omega arith
-  sum-ordered done (x ∷ xs) = omega (arith, sum-ordered (place x done) xs, sum-place x done)
+  sum-ordered done (x ∷ xs) = omega (arith, sum-ordered (putIn x done) xs, sum-place x done)
 
   module _ (board : Fretboard) (memory : List Remembered) (b : BeatIs) where
     sum-from : (k i : ℕ) (ns : List NoteIs) → length ns ≡ k → ((j : ℕ) → getD (b .notes) (i + j) noNote ≡ getD ns j noNote)

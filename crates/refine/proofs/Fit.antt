@@ -2,7 +2,7 @@
 use Prim.Native.Nat.{ℕ, _*_, _≤_}
 use mathlib.Core.List.{List}
 use lib.ListN.{length}
-use Rattle.format.specs.Outcome.{LIMIT}
+use Rattle.format.specs.Verdict.{LIMIT}
 use Rattle.score.proofs.Follow.{Relations, Alike}
 use Rattle.score.specs.Page.{Heads, Staves, Walk, keeping}
 use Rattle.score.specs.Score.{Lists, lists, none}

@@ -9,7 +9,7 @@ use lib.Dec.{eqb, ltb}
 use lib.ListN.{length, getD, replicate, length-append}
 use Rattle.format.specs.declared.Range.{Range}
 use Rattle.format.specs.Text.{pick}
-use Rattle.format.specs.Outcome.{LIMIT}
+use Rattle.format.specs.Verdict.{LIMIT}
 use Rattle.format.specs.Yields.{Inside}
 use Rattle.tables.proofs.Laws.{over-nil}
 use Rattle.model.specs.declared.Bar.{Bar}
@@ -23,9 +23,9 @@ use Rattle.track.specs.declared.Track.{Track}
 use Rattle.score.specs.declared.Before.{Before}
 use Rattle.score.specs.declared.Part.{Part}
 use Rattle.score.specs.declared.Voice.{Voice}
-use Rattle.score.specs.Bars.{several, oneIf, unsupported, otherSigns, goesOn, endingOf, passesOf, barOf, noBar}
+use Rattle.score.specs.Bars.{several, oneIf, unsupported, otherSigns, goesOn, endingEntry, passesEntry, barOf, noBar}
 use Rattle.score.proofs.Facts.{HeaderFacts, TrackFacts}
-use Rattle.score.specs.File.{Song}
+use Rattle.score.specs.File.{Opening}
 use Rattle.score.specs.Losses.{reportIf, reported, headerLosses, trackLosses}
 use Rattle.score.specs.Page as Page
 use Rattle.score.specs.Page.{Heads, Staves, Walk, noVoice, partOf, trackEntry, report, addHeader, addTrack}
@@ -62,11 +62,11 @@ unsupported-length numbers (e ∷ signs) =
     omega (arith, one-if (ltb 0 (getD numbers e 0)), unsupported-length numbers signs)
 
 -- the swing, and one for each of nine signs
-abbrev songLosses : Song → List Loss
+abbrev songLosses : Opening → List Loss
 songLosses g =
     reportIf (g .swing) TripletFeel ++ reported (unsupported (g .directions) otherSigns) UnsupportedDirection
 
-song-losses-length : (g : Song) → length (songLosses g) ≤ 10
+song-losses-length : (g : Opening) → length (songLosses g) ≤ 10
 song-losses-length g =
     rw length-append (omega (
       arith,
@@ -75,10 +75,10 @@ song-losses-length g =
       unsupported-length (g .directions) otherSigns,
     ))
 
-abbrev barLosses : Song → ℕ → Header → List Loss
+abbrev barLosses : Opening → ℕ → Header → List Loss
 barLosses g b h = headerLosses h ++ reportIf (several (g .directions) b) UnsupportedDirection
 
-bar-losses-length : (g : Song) (b : ℕ) (h : Header) → length (barLosses g b h) ≤ 3
+bar-losses-length : (g : Opening) (b : ℕ) (h : Header) → length (barLosses g b h) ≤ 3
 unfolding headerLosses
 bar-losses-length g b h =
     simp length-append (omega (
@@ -117,11 +117,11 @@ module _ (ls : List Loss) (l : length ls ≤ 64) (counts : List ℕ) where
 
 -- ---- headers
 
-ending-fits : (n : ℕ) → n < 256 → EndingFits (endingOf n)
+ending-fits : (n : ℕ) → n < 256 → EndingFits (endingEntry n)
 ending-fits zero h = tt
 ending-fits (suc n) h = rw (ne-eqb (suc n) 0 (omega arith)) (omega arith)
 
-passes-fit : (n : ℕ) → n < 256 → PassesFit (passesOf n)
+passes-fit : (n : ℕ) → n < 256 → PassesFit (passesEntry n)
 passes-fit zero h = tt
 passes-fit (suc n) h = rw (ne-eqb (suc n) 0 (omega arith)) (omega arith)
 
@@ -151,7 +151,7 @@ goes-on-from zero e (suc n) h k =
     absurd (omega (arith, h refl))
 
 module _ (s : List ℕ) (small : length s ≤ LIMIT) (t : Lent) where
-  pub headers-start : (g : Song) (at : ℕ) → HeadsShown s t 0 (noBars lists none g) (noBars (words s) (lent t) g) at
+  pub headers-start : (g : Opening) (at : ℕ) → HeadsShown s t 0 (noBars lists none g) (noBars (words s) (lent t) g) at
   unfolding noBars
   headers-start g at =
       let none-yet : All (UpTo 0) (replicate 17 0) = all-replicate (UpTo 0) 17 0 (omega arith) in
@@ -166,7 +166,7 @@ module _ (s : List ℕ) (small : length s ≤ LIMIT) (t : Lent) where
         fits = tt;
       }
 
-  module _ (g : Song) (b : ℕ) (time : Time) (h : Header) (x : Heads Lists) (y : Heads Words) (at n : ℕ)
+  module _ (g : Opening) (b : ℕ) (time : Time) (h : Header) (x : Heads Lists) (y : Heads Words) (at n : ℕ)
       (f : HeaderFacts s at h n) (r : HeadsShown s t b x y at) where
     abbrev go : Bool
     go = goesOn (x .before) h
@@ -281,7 +281,7 @@ fresh-within : (p : Part) → FreshPart p → PartWithin 0 0 p
 fresh-within p f =
     record { first = fresh-voice-within (p .first) (f .first); second = fresh-voice-within (p .second) (f .second) }
 
-module _ (s : List ℕ) (t : Lent) (g : Song) where
+module _ (s : List ℕ) (t : Lent) (g : Opening) where
   pub bars-start : (h : Heads Lists) (i : Heads Words) (u : Staves Lists) (v : Staves Words) (earlier at : ℕ)
       → HeadsShown s t (g .counts .bars) h i earlier → StavesShown s t (g .counts .tracks) u v at
       → WalkShown s t g (noBeats lists none h u) (noBeats (words s) (lent t) i v) at

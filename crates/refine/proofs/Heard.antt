@@ -28,11 +28,11 @@ use Rattle.score.specs.declared.LastFret.{LastFret}
 use Rattle.score.specs.declared.LastFret.the-variants.{NoFret, Fret}
 use Rattle.score.specs.declared.Remembered.{Remembered}
 use Rattle.score.specs.Sounding.{Sounding, nothing, fretOf, sounds, soundingAt, soundingFrom, sounding, remember}
-use Rattle.score.specs.Members.{Keyed, keyed, place, ordered, inOrder, Graced, gracedAfter, graces}
+use Rattle.score.specs.Members.{Keyed, keyed, putIn, ordered, inOrder, Graced, gracedAfter, graces}
 use Rattle.score.specs.Rows.{levels}
 use Rattle.score.specs.Losses.{reportIf, noteLosses, notesLosses, readingLosses, builtLosses, memberLosses, graceLosses}
 use Rattle.score.specs.Losses.{buildingLosses}
-use Rattle.score.specs.Page.{Kind, Tables, bendRoom, bendRooms, runningAfter, beatLosses}
+use Rattle.score.specs.Page.{Kind, Operations, bendRoom, bendRooms, runningAfter, beatLosses}
 use Rattle.score.proofs.Facts.{LevelFits, NoteFits}
 use Rattle.refine.proofs.All.{All, all-getD, all-set}
 use Rattle.refine.proofs.Parts.{LastFits, FretFits}
@@ -128,25 +128,25 @@ remember-fits board room memory (x ∷ xs) f q =
 -- ---- in the order of their keys
 
 module _ (P : Keyed → Type 0) where
-  place-all : (x : Keyed) (ys : List Keyed) → P x → All P ys → All P (place x ys)
+  place-all : (x : Keyed) (ys : List Keyed) → P x → All P ys → All P (putIn x ys)
   place-all x [] p q = (p, tt)
   place-all x (y ∷ ys) p q =
-      pick-both (All P) (ltb (x .key) (y .key)) (x ∷ y ∷ ys) (y ∷ place x ys)
+      pick-both (All P) (ltb (x .key) (y .key)) (x ∷ y ∷ ys) (y ∷ putIn x ys)
       (p, (q .0, q .1)) (q .0, place-all x ys p (q .1))
 
   ordered-all : (done xs : List Keyed) → All P done → All P xs → All P (ordered done xs)
   ordered-all done [] p q = p
-  ordered-all done (x ∷ xs) p q = ordered-all (place x done) xs (place-all x done (q .0) p) (q .1)
+  ordered-all done (x ∷ xs) p q = ordered-all (putIn x done) xs (place-all x done (q .0) p) (q .1)
 
-length-place : (x : Keyed) (ys : List Keyed) → length (place x ys) ≡ suc (length ys)
+length-place : (x : Keyed) (ys : List Keyed) → length (putIn x ys) ≡ suc (length ys)
 length-place x [] = refl
 length-place x (y ∷ ys) =
-    pick-both (λ l. length l ≡ suc (suc (length ys))) (ltb (x .key) (y .key)) (x ∷ y ∷ ys) (y ∷ place x ys)
+    pick-both (λ l. length l ≡ suc (suc (length ys))) (ltb (x .key) (y .key)) (x ∷ y ∷ ys) (y ∷ putIn x ys)
     refl (omega (arith, length-place x ys))
 
 length-ordered : (done xs : List Keyed) → length (ordered done xs) ≡ length done + length xs
 length-ordered done [] = omega arith
-length-ordered done (x ∷ xs) = omega (arith, length-ordered (place x done) xs, length-place x done)
+length-ordered done (x ∷ xs) = omega (arith, length-ordered (putIn x done) xs, length-place x done)
 
 key-fits : (percussion : Bool) (fret tuning capo : ℕ) → fret < 256 → noteKey percussion fret tuning capo < 256
 unfolding percussionKey
@@ -216,7 +216,7 @@ cond-fits : (t : Bool) (a : ℕ) → a < 256 → cond t a forte < 256
 cond-fits true a h = h
 cond-fits false a h = omega arith
 
-pub running-fits : {T : Kind → Type 0} (the : Tables T) (board : Fretboard) (room running : ℕ) (b : BeatIs)
+pub running-fits : {T : Kind → Type 0} (the : Operations T) (board : Fretboard) (room running : ℕ) (b : BeatIs)
     (xs : List Keyed) → All (KeyedFits board room) xs → running < 256 → runningAfter the running b xs < 256
 unfolding levelAfter chordLevel chordOf
 running-fits the board room running b xs q h =
@@ -267,7 +267,7 @@ building-losses b xs h =
     simp length-append (grw (bound, length-if)
     (omega (arith, member-losses xs, grace-losses (graces xs), length-graces xs)))
 
-module _ {T : Kind → Type 0} (the : Tables T) where
+module _ {T : Kind → Type 0} (the : Operations T) where
   pub beat-losses : (b : BeatIs) (xs : List Keyed) → length (b .notes) ≡ 7 → length xs ≤ 7
       → length (beatLosses the b xs) ≤ 50
   beat-losses b xs h k =

@@ -11,7 +11,7 @@ use lib.Dec.{eqb}
 use lib.ListN.{length, getD, set}
 use lib.Seq.{sets, slice}
 use Rattle.format.specs.declared.Range.{Range}
-use Rattle.format.specs.Text.{Text, pick, textIn}
+use Rattle.format.specs.Text.{TextRead, pick, textIn}
 use Rattle.tables.specs.Table.{change}
 use Rattle.tables.proofs.Laws.{over-turn}
 use Rattle.model.specs.declared.Bar.{Bar}
@@ -187,7 +187,7 @@ pub record TextHeld (s : List ℕ) (u : TextIs) : Type 0 where
 held-bytes : (s : List ℕ) (u : TextIs) → TextHeld s u → let r : Range = u .text .range in
     slice (r .start % 4294967296) (r .end % 4294967296) s ≡ u .text .bytes
 held-bytes s u f =
-    rw (mod-eq-of-lt (f .range .start), mod-eq-of-lt (f .range .end)) (sym (ap (λ (x : Text). x .bytes) (f .is)))
+    rw (mod-eq-of-lt (f .range .start), mod-eq-of-lt (f .range .end)) (sym (ap (λ (x : TextRead). x .bytes) (f .is)))
 
 module _ (s t : List ℕ) (x : TextIs) (ts : List TextIs) (f : All (TextHeld s) ts) where
   pub entered-shows : (n : ℕ) → n ≤ length ts → length ts * textStride ≤ length t

@@ -9,12 +9,12 @@ use borrow.Author.Tests.{le-leb, lt-leb}
 use lib.Dec.{leb}
 use lib.ListN.{length, getD}
 use Rattle.format.specs.declared.Stop.{Stop}
-use Rattle.format.specs.Outcome.{LIMIT, Outcome, whole, truncated, tooLong}
-use Rattle.format.specs.Outcome.{stopOutcome, asOutcome, upTo, outcome}
+use Rattle.format.specs.Verdict.{LIMIT, Verdict, whole, truncated, tooLong}
+use Rattle.format.specs.Verdict.{stopVerdict, asVerdict, upTo, verdict}
 use Rattle.format.specs.Prog.{Prog, Res, ok, stopped, run}
 use Rattle.format.specs.Text.{pick}
 use Rattle.format.specs.Yields.{Bytes}
-use Rattle.format.proofs.Outcome.{outcome-short, outcome-long}
+use Rattle.format.proofs.Verdict.{verdict-short, verdict-long}
 use Rattle.model.specs.Kinds.{tempoOf}
 use Rattle.entries.proofs.Fits.{BarFits}
 use Rattle.entries.specs.Words.{tempoAt}
@@ -38,7 +38,7 @@ abbrev pub onePass : List ℕ → Lent → Res WordScore
 onePass d t = run (file (keeping (words (upTo LIMIT d)) (lent t))) (upTo LIMIT d) 0
 
 -- what it is that the bytes end: of a file no longer than the limit, that the file ends
-abbrev pub endOf : List ℕ → Outcome Score
+abbrev pub endOf : List ℕ → Verdict Score
 endOf d = pick (leb (length d) LIMIT) truncated tooLong
 
 -- the lent tables after a pass
@@ -63,17 +63,17 @@ pub record Entered (t : Lent) (x : Score) (y : WordScore) : Type 0 where
 -- a pass that comes to its end
 pub record Passed (d : List ℕ) (t : Lent) (y : WordScore) (n : ℕ) : Type 0 where
   pub score : Score
-  pub is : outcome scored d ≡ whole score n
+  pub is : verdict scored d ≡ whole score n
   pub song : score .song ≡ y .song
   pub needs : neededBy (y .song .counts) (y .bars .tally) ≡ needed score
   pub losses : y .bars .tally .losses ≡ score .bars .tally .losses
   pub entered : enough (needed score) (tablesOf t) ≡ true → Entered t score y
 
 -- the outcome of a file of any size is that of what may be read of it
-outcome-is : (p : Prog Score) (d : List ℕ) → outcome p d ≡ asOutcome (endOf d) (run p (upTo LIMIT d) 0)
+outcome-is : (p : Prog Score) (d : List ℕ) → verdict p d ≡ asVerdict (endOf d) (run p (upTo LIMIT d) 0)
 outcome-is p d = elim (decLe (length d) LIMIT) [
-  | yes h ↦ rw (le-leb (length d) LIMIT h, upto-all LIMIT d h) (outcome-short p d h)
-  | no h ↦ rw (lt-leb (length d) LIMIT (omega arith)) (outcome-long p d (omega arith))
+  | yes h ↦ rw (le-leb (length d) LIMIT h, upto-all LIMIT d h) (verdict-short p d h)
+  | no h ↦ rw (lt-leb (length d) LIMIT (omega arith)) (verdict-long p d (omega arith))
 ]
 
 module _ (s : List ℕ) (t : Lent) (x : Score) (y : WordScore) (n : ℕ) (r : Agreed s (shows s t) x y n) where
@@ -111,10 +111,10 @@ module _ (d : List ℕ) (bytes : Bytes d) (t : Lent) (own : 100 * partStride ≤
   both-pass =
       alike (upto-bytes LIMIT d bytes) (words-alike u (upto-within LIMIT d) t own) .follows (omega arith)
 
-  pub stopped-pass : (x : Stop) → onePass d t ≡ stopped x → outcome scored d ≡ stopOutcome (endOf d) x
+  pub stopped-pass : (x : Stop) → onePass d t ≡ stopped x → verdict scored d ≡ stopVerdict (endOf d) x
   stopped-pass x e = rw (outcome-is scored d) (go (run scored u 0) (rw e at both-pass))
     where
-      go : (o : Res Score) → Both (Agreed u (shows u t)) o (stopped x) → asOutcome (endOf d) o ≡ stopOutcome (endOf d) x
+      go : (o : Res Score) → Both (Agreed u (shows u t)) o (stopped x) → asVerdict (endOf d) o ≡ stopVerdict (endOf d) x
       go (ok a n) r = absurd r
       go (stopped z) r = rw r
 

@@ -14,7 +14,7 @@ use mir.Val.{Fits}
 use Rattle.bin.specs.Signed.{signed}
 use Rattle.format.specs.declared.Stop.{Stop}
 use Rattle.format.specs.declared.Stop.the-variants as S
-use Rattle.format.specs.Outcome.{LIMIT, whole, truncated, tooLong, stopOutcome}
+use Rattle.format.specs.Verdict.{LIMIT, whole, truncated, tooLong, stopVerdict}
 use Rattle.format.specs.Prog.{ok, stopped}
 use Rattle.format.specs.Text.{pick}
 use Rattle.format.specs.Yields.{Bytes}
@@ -81,7 +81,7 @@ end-is d t = elim (decLe (length d) LIMIT) [
 ]
 
 stop-is : (d : List ℕ) (t : Tables) (x : Stop)
-    → resultOf t (stopOutcome (endOf d) x) ≡ refused (refusal (stopAnswer (ltb LIMIT (length d)) x)) t
+    → resultOf t (stopVerdict (endOf d) x) ≡ refused (refusal (stopAnswer (ltb LIMIT (length d)) x)) t
 stop-is d t S.Ends = end-is d t
 stop-is d t S.Text = refl
 stop-is d t S.Version = refl
@@ -93,7 +93,7 @@ end-not-whole : (b : Bool) (x : Score) (n : ℕ) → pick b truncated tooLong �
 end-not-whole true x n e = clash (cc)
 end-not-whole false x n e = clash (cc)
 
-stop-not-whole : (d : List ℕ) (why : Stop) (x : Score) (n : ℕ) → stopOutcome (endOf d) why ≡ whole x n → ⊥
+stop-not-whole : (d : List ℕ) (why : Stop) (x : Score) (n : ℕ) → stopVerdict (endOf d) why ≡ whole x n → ⊥
 stop-not-whole d S.Ends x n e = end-not-whole (leb (length d) LIMIT) x n e
 stop-not-whole d S.Text x n e = clash (cc)
 stop-not-whole d S.Version x n e = clash (cc)

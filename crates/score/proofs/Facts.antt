@@ -50,7 +50,7 @@ use Rattle.note.specs.Notes.{stringBit, noNotes, notes}
 use Rattle.beat.specs.Head.{head}
 use Rattle.beat.specs.Beat.{BeatIs, beatNotes, beatBy, beat}
 use Rattle.score.specs.Members.{Keyed}
-use Rattle.score.specs.Rows.{marksOfNotes, beatMarks, addAll, marksOf as rowMarks}
+use Rattle.score.specs.Rows.{marksOfNotes, beatMarks, addedAll, marksOf as rowMarks}
 use Rattle.score.specs.Page.{bendRoom, bendRooms}
 
 -- ---- the facts: of what begins at a position of the file s and ends at n
@@ -378,8 +378,8 @@ module _ (s : List ℕ) (bytes : Bytes s) where
   ending-facts v flags = yield-le _ _ (λ _. yield-ret (omega arith)) (λ _. byte-below flags 0x10 0 (omega arith))
 
   marks-facts : {at : ℕ} (v flags : ℕ)
-      → Yields s (H.marks v flags) at (λ m _. (m .ending < 256) × Inside (length s) (m .marker) × KeyFits (m .key))
-  unfolding H.marks
+      → Yields s (H.headerMarks v flags) at (λ m _. (m .ending < 256) × Inside (length s) (m .marker) × KeyFits (m .key))
+  unfolding H.headerMarks
   marks-facts v flags =
       yield-after _ _ (λ _ _ _.
       yield-bind _ (ending-facts v flags) (λ _ _ _ h.
@@ -387,8 +387,8 @@ module _ (s : List ℕ) (bytes : Bytes s) where
       yield-bind _ (key-facts flags) (λ _ _ _ k.
       yield-ret (h, j .inside, k)))))
 
-  tail-facts : {at : ℕ} (v flags : ℕ) → Yields s (H.tail v flags) at (λ t _. t .mask < 256)
-  unfolding H.tail
+  tail-facts : {at : ℕ} (v flags : ℕ) → Yields s (H.headerTail v flags) at (λ t _. t .mask < 256)
+  unfolding H.headerTail
   tail-facts v flags =
       yield-le _ _
       (λ _. yield-after _ _ (λ _ _ _. yield-bind _ (yield-byte bytes) (λ mask _ _ h. search (yielding, h .0))))
@@ -468,7 +468,7 @@ counts-facts s at =
 
 -- ---- articulations of a row: none twice, so at most sixteen
 
-add-distinct : (done more : List Articulation) → Distinct done → Distinct (addAll done more)
+add-distinct : (done more : List Articulation) → Distinct done → Distinct (addedAll done more)
 add-distinct done [] f = f
 add-distinct done (a ∷ more) f = add-distinct (addOnce a done) more (distinct-add a done f)
 
@@ -476,4 +476,4 @@ pub marks-few : (e : BeatEffects) (xs : List Keyed) → length (rowMarks e xs) <
 unfolding rowMarks
 marks-few e xs =
     let marks = marksOfNotes e xs ++ beatMarks e in
-    omega (arith, distinct-few (addAll [] marks) (add-distinct [] marks distinct-nil))
+    omega (arith, distinct-few (addedAll [] marks) (add-distinct [] marks distinct-nil))

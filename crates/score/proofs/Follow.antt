@@ -7,7 +7,7 @@ use lib.ListN.{length, getD, take, length-take}
 use lib.Seq.{take-all}
 use Rattle.format.specs.declared.Counted.the-variants as C
 use Rattle.format.specs.Prog.{Prog, ret, Res, ok, stopped, run, bind, turns}
-use Rattle.format.specs.Outcome.{upTo}
+use Rattle.format.specs.Verdict.{upTo}
 use Rattle.format.specs.Yields.{Yields, Onward, Bytes}
 use Rattle.format.proofs.Run.{andThen, run-bind, run-within}
 use Rattle.format.proofs.Yields.{yield-ret, yield-after, yield-bind, yield-le}
@@ -15,7 +15,7 @@ use Rattle.model.specs.declared.Time.{Time}
 use Rattle.header.specs.declared.Header.{Header}
 use Rattle.track.specs.declared.Track.{Track}
 use Rattle.beat.specs.Beat.{BeatIs}
-use Rattle.score.specs.File.{Song, song, voices, Timed, Adding, Whole, oneHeader, headers, oneTrack, tracks}
+use Rattle.score.specs.File.{Opening, opening, voices, Timed, Adding, Whole, oneHeader, headers, oneTrack, tracks}
 use Rattle.score.specs.File.{oneBeat, voice, barTrack, bar, bars, score, file}
 use Rattle.score.proofs.Facts.{BeatFacts, TimeFits, HeaderFacts, TrackFacts, CountsFacts}
 use Rattle.score.proofs.Facts.{beat-facts, common-time, header-facts, track-facts, counts-facts, count-facts}
@@ -94,38 +94,38 @@ module _ {A B : Type 0} {s : List ℕ} (R : ℕ → A → B → ℕ → Type 0) 
 
 -- How they are related at a position: after so many headers, after so many tracks, before a bar is entered, and in it
 pub record Relations (H H' T T' W W' : Type 0) : Type 1 where
-  pub headers : Song → ℕ → H → H' → ℕ → Type 0
-  pub tracks : Song → ℕ → T → T' → ℕ → Type 0
-  pub before : Song → ℕ → W → W' → ℕ → Type 0
-  pub within : Song → ℕ → W → W' → ℕ → Type 0
+  pub headers : Opening → ℕ → H → H' → ℕ → Type 0
+  pub tracks : Opening → ℕ → T → T' → ℕ → Type 0
+  pub before : Opening → ℕ → W → W' → ℕ → Type 0
+  pub within : Opening → ℕ → W → W' → ℕ → Type 0
 
 module _ {H H' T T' W W' : Type 0} (s : List ℕ) (R : Relations H H' T T' W W') where
   -- every step keeps the states related
   pub record Alike (A : Adding H T W) (B : Adding H' T' W') : Type 0 where
-    pub start : (g : Song) (at : ℕ) → CountsFacts (g .counts) → at ≤ length s
+    pub start : (g : Opening) (at : ℕ) → CountsFacts (g .counts) → at ≤ length s
         → R .headers g 0 (A .headers g) (B .headers g) at
-    pub header : (g : Song) (b : ℕ) (time : Time) (h : Header) (x : H) (y : H') (at n : ℕ) → CountsFacts (g .counts)
+    pub header : (g : Opening) (b : ℕ) (time : Time) (h : Header) (x : H) (y : H') (at n : ℕ) → CountsFacts (g .counts)
         → b < g .counts .bars → TimeFits time → HeaderFacts s at h n → R .headers g b x y at
         → R .headers g (b + 1) (A .addHeader g b time h x) (B .addHeader g b time h y) n
-    pub tracks : (g : Song) (x : H) (y : H') (at : ℕ) → CountsFacts (g .counts)
+    pub tracks : (g : Opening) (x : H) (y : H') (at : ℕ) → CountsFacts (g .counts)
         → R .headers g (g .counts .bars) x y at → R .tracks g 0 (A .tracks x) (B .tracks y) at
-    pub track : (g : Song) (t : ℕ) (u : Track) (x : T) (y : T') (at n : ℕ) → CountsFacts (g .counts)
+    pub track : (g : Opening) (t : ℕ) (u : Track) (x : T) (y : T') (at n : ℕ) → CountsFacts (g .counts)
         → t < g .counts .tracks → TrackFacts s at u n → R .tracks g t x y at
         → R .tracks g (t + 1) (A .addTrack t u x) (B .addTrack t u y) n
-    pub bars : (g : Song) (h : H) (h' : H') (t : T) (t' : T') (earlier at : ℕ) → CountsFacts (g .counts)
+    pub bars : (g : Opening) (h : H) (h' : H') (t : T) (t' : T') (earlier at : ℕ) → CountsFacts (g .counts)
         → R .headers g (g .counts .bars) h h' earlier → earlier ≤ at → R .tracks g (g .counts .tracks) t t' at
         → R .before g 0 (A .bars h t) (B .bars h' t') at
-    pub enter : (g : Song) (b : ℕ) (x : W) (y : W') (at : ℕ) → CountsFacts (g .counts)
+    pub enter : (g : Opening) (b : ℕ) (x : W) (y : W') (at : ℕ) → CountsFacts (g .counts)
         → b < g .counts .bars → R .before g b x y at → R .within g b (A .enterBar b x) (B .enterBar b y) at
-    pub beat : (g : Song) (b t voice : ℕ) (u : BeatIs) (x : W) (y : W') (at n : ℕ) → CountsFacts (g .counts)
+    pub beat : (g : Opening) (b t voice : ℕ) (u : BeatIs) (x : W) (y : W') (at n : ℕ) → CountsFacts (g .counts)
         → b < g .counts .bars → t < g .counts .tracks → voice < 2 → BeatFacts s at u n → R .within g b x y at
         → R .within g b (A .addBeat b t voice u x) (B .addBeat b t voice u y) n
-    pub leave : (g : Song) (b : ℕ) (x : W) (y : W') (at : ℕ) → CountsFacts (g .counts)
+    pub leave : (g : Opening) (b : ℕ) (x : W) (y : W') (at : ℕ) → CountsFacts (g .counts)
         → b < g .counts .bars → R .within g b x y at → R .before g (b + 1) x y at
     -- reading on changes nothing: counts stand between the beats, and all bars after the tracks
-    pub tracks-later : (g : Song) (t : ℕ) (x : T) (y : T') (at n : ℕ) → Onward s at n
+    pub tracks-later : (g : Opening) (t : ℕ) (x : T) (y : T') (at n : ℕ) → Onward s at n
         → R .tracks g t x y at → R .tracks g t x y n
-    pub within-later : (g : Song) (b : ℕ) (x : W) (y : W') (at n : ℕ) → Onward s at n
+    pub within-later : (g : Opening) (b : ℕ) (x : W) (y : W') (at n : ℕ) → Onward s at n
         → R .within g b x y at → R .within g b x y n
 
   -- what is then known of two files that were read to their ends
@@ -137,8 +137,8 @@ module _ {H H' T T' W W' : Type 0} (s : List ℕ) (R : Relations H H' T T' W W')
     pub bars : R .before (x .song) (x .song .counts .bars) (x .bars) (y .bars) n
 
 -- ---- what is the same on both sides
-song-facts : (s : List ℕ) (at : ℕ) → Yields s song at (λ g _. CountsFacts (g .counts))
-unfolding song
+song-facts : (s : List ℕ) (at : ℕ) → Yields s opening at (λ g _. CountsFacts (g .counts))
+unfolding opening
 song-facts s at =
     yield-after _ _ (λ _ _ _. yield-after _ _ (λ _ _ _. yield-after _ _ (λ _ _ _. yield-after _ _ (λ _ _ _.
     yield-after _ _ (λ _ _ _. yield-after _ _ (λ _ _ _. yield-after _ _ (λ _ m _.
@@ -152,7 +152,7 @@ voices-facts s v at =
 -- ---- the skeleton, step by step
 module _ {H H' T T' W W' : Type 0} {s : List ℕ} {R : Relations H H' T T' W W'} {A : Adding H T W} {B : Adding H' T' W'}
     (bytes : Bytes s) (step : Alike s R A B) where
-  module _ (g : Song) (few : CountsFacts (g .counts)) where
+  module _ (g : Opening) (few : CountsFacts (g .counts)) where
     -- beside the states goes the time, the same on both sides
     record OnTime (b : ℕ) (x : Timed H) (y : Timed H') (at : ℕ) : Type 0 where
       same : x .time ≡ y .time

@@ -29,13 +29,13 @@ pub record Sign : Type 0 where
   pub number : ℕ
   pub direction : Direction
 
-abbrev sign : ℕ → Direction → Sign
-sign n d = record { number = n; direction = d }
+abbrev signOf : ℕ → Direction → Sign
+signOf n d = record { number = n; direction = d }
 
 abbrev pub keptSigns : List Sign
 keptSigns =
-    sign 0 D.Coda ∷ sign 2 D.Segno ∷ sign 4 D.Fine ∷ sign 5 D.DaCapo ∷ sign 6 D.DaCapoAlCoda ∷ sign 8 D.DaCapoAlFine
-    ∷ sign 9 D.DalSegno ∷ sign 10 D.DalSegnoAlCoda ∷ sign 12 D.DalSegnoAlFine ∷ sign 17 D.ToCoda ∷ []
+    signOf 0 D.Coda ∷ signOf 2 D.Segno ∷ signOf 4 D.Fine ∷ signOf 5 D.DaCapo ∷ signOf 6 D.DaCapoAlCoda ∷ signOf 8 D.DaCapoAlFine
+    ∷ signOf 9 D.DalSegno ∷ signOf 10 D.DalSegnoAlCoda ∷ signOf 12 D.DalSegnoAlFine ∷ signOf 17 D.ToCoda ∷ []
 
 abbrev pub otherSigns : List ℕ
 otherSigns = 1 ∷ 3 ∷ 7 ∷ 11 ∷ 13 ∷ 14 ∷ 15 ∷ 16 ∷ 18 ∷ []
@@ -115,11 +115,11 @@ followed Mid = Mid
 followed End = Mid
 followed BeginEnd = Begin
 
-abbrev pub endingOf : ℕ → Ending
-endingOf n = pick (eqb n 0) NoEnding (Nth n)
+abbrev pub endingEntry : ℕ → Ending
+endingEntry n = pick (eqb n 0) NoEnding (Nth n)
 
-abbrev pub passesOf : ℕ → Passes
-passesOf m = pick (eqb m 0) NoPasses (Mask m)
+abbrev pub passesEntry : ℕ → Passes
+passesEntry m = pick (eqb m 0) NoPasses (Mask m)
 
 -- a double bar stands where no repeat ends
 unfoldable pub barOf : List ℕ → ℕ → Time → Header → Before → Bar
@@ -129,8 +129,8 @@ barOf numbers bar time h before =
       key = h .key;
       changed = record { time = timeChanged bar time (h .time); key = keyChanged bar (before .key) (h .key) };
       repeats = record { start = h .«repeat_start»; end = h .«repeat_end»; double = h .«double_bar» && not (h .«repeat_end») };
-      ending = endingOf (h .ending);
-      passes = passesOf (h .passes);
+      ending = endingEntry (h .ending);
+      passes = passesEntry (h .passes);
       place = lastPlace before h;
       marker = h .marker;
       direction = directionAt numbers bar;

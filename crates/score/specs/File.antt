@@ -21,7 +21,7 @@ use Rattle.track.specs.Track.{track}
 use Rattle.beat.specs.Beat.{BeatIs, beat}
 
 -- what stands before the bar headers
-pub record Song : Type 0 where
+pub record Opening : Type 0 where
   pub version : ℕ
   pub info : Info
   pub swing : Bool
@@ -31,8 +31,8 @@ pub record Song : Type 0 where
   pub directions : List ℕ
   pub counts : Counts
 
-unfoldable pub song : Prog Song
-song =
+unfoldable pub opening : Prog Opening
+opening =
     bind version (λ v.
     bind (info v) (λ i.
     bind (tripletFeel v) (λ w.
@@ -55,8 +55,8 @@ pub record Timed (H : Type 0) : Type 0 where
 -- what headers, tracks and beats are added to: a header by the time before it and its bar; a track by its number; a beat by its
 -- bar, track and voice. A bar is entered before its beats
 pub record Adding (H T W : Type 0) : Type 0 where
-  pub headers : Song → H
-  pub addHeader : Song → ℕ → Time → Header → H → H
+  pub headers : Opening → H
+  pub addHeader : Opening → ℕ → Time → Header → H → H
   pub tracks : H → T
   pub addTrack : ℕ → Track → T → T
   pub bars : H → T → W
@@ -65,22 +65,22 @@ pub record Adding (H T W : Type 0) : Type 0 where
 
 -- a file that was read to its end
 pub record Whole (T W : Type 0) : Type 0 where
-  pub song : Song
+  pub song : Opening
   pub tracks : T
   pub bars : W
 
 module _ {H T W : Type 0} (add : Adding H T W) where
-  unfoldable pub oneHeader : Song → ℕ → Timed H → Prog (Timed H)
+  unfoldable pub oneHeader : Opening → ℕ → Timed H → Prog (Timed H)
   oneHeader g b w =
       bind (header (g .version) (w .time)) (λ h. ret (record { time = h .time; state = add .addHeader g b (w .time) h (w .state) }))
 
-  unfoldable pub headers : Song → Prog (Timed H)
+  unfoldable pub headers : Opening → Prog (Timed H)
   headers g = turns (g .counts .bars) 0 (oneHeader g) (record { time = commonTime; state = add .headers g })
 
-  unfoldable pub oneTrack : Song → ℕ → T → Prog T
+  unfoldable pub oneTrack : Opening → ℕ → T → Prog T
   oneTrack g t u = bind (track (g .version) (g .programs)) (λ x. ret (add .addTrack t x u))
 
-  unfoldable pub tracks : Song → T → Prog T
+  unfoldable pub tracks : Opening → T → Prog T
   tracks g u = turns (g .counts .tracks) 0 (oneTrack g) u
 
   unfoldable pub oneBeat : (v b t w : ℕ) → ℕ → W → Prog W
@@ -95,10 +95,10 @@ module _ {H T W : Type 0} (add : Adding H T W) where
   unfoldable pub bar : (v tracks b : ℕ) → W → Prog W
   bar v tracks b u = turns tracks 0 (barTrack v b) (add .enterBar b u)
 
-  unfoldable pub bars : Song → W → Prog W
+  unfoldable pub bars : Opening → W → Prog W
   bars g u = turns (g .counts .bars) 0 (bar (g .version) (g .counts .tracks)) u
 
-  unfoldable pub score : Song → Prog (Whole T W)
+  unfoldable pub score : Opening → Prog (Whole T W)
   score g =
       bind (headers g) (λ h.
       bind (tracks g (add .tracks (h .state))) (λ t.
@@ -106,4 +106,4 @@ module _ {H T W : Type 0} (add : Adding H T W) where
       ret (record { song = g; tracks = t; bars = w }))))
 
   unfoldable pub file : Prog (Whole T W)
-  file = bind song score
+  file = bind opening score

@@ -5,7 +5,7 @@ use mathlib.Core.List.{List, [], _∷_, _++_}
 use mathlib.Core.Bool.{Bool, true, false, not, _&&_}
 use lib.ListN.{getD, length, set, replicate}
 use lib.Dec.{eqb, ltb}
-use Rattle.format.specs.Text.{Text, pick}
+use Rattle.format.specs.Text.{TextRead, pick}
 use Rattle.model.specs.declared.Bar.{Bar}
 use Rattle.model.specs.declared.Dynamic.{Dynamic}
 use Rattle.model.specs.declared.Dynamic.the-variants.{NoDynamic}
@@ -59,7 +59,7 @@ use Rattle.score.specs.Sounding.{Sounding, noMemory, sounding, remember}
 use Rattle.score.specs.Members.{Keyed, inOrder}
 use Rattle.score.specs.Rows.{RowIs, rowsOf, levels}
 use Rattle.score.specs.declared.Remembered.{Remembered}
-use Rattle.score.specs.File.{Song, Adding}
+use Rattle.score.specs.File.{Opening, Adding}
 use Rattle.score.specs.Bars.{several, unsupported, otherSigns, cMajor, keyAfter, flatAfter, goesOn, barOf}
 use Rattle.score.specs.Losses.{reportIf, reported, headerLosses, trackLosses, readingLosses, buildingLosses}
 
@@ -78,7 +78,7 @@ pub data Kind : Type 0 where
 pub record TextIs : Type 0 where
   pub bar : ℕ
   pub track : ℕ
-  pub text : Text
+  pub text : TextRead
 
 abbrev pub Entry : Kind → Type 0
 Entry bars = Bar
@@ -90,7 +90,7 @@ Entry texts = TextIs
 Entry parts = Part
 
 -- T says what stands for each table. Numbers of entries, and of reports, are gone up by `plus`
-pub record Tables (T : Kind → Type 0) : Type 0 where
+pub record Operations (T : Kind → Type 0) : Type 0 where
   pub plus : ℕ → ℕ → ℕ
   -- an entry after those that are there, whose number is given
   pub add : (k : Kind) → ℕ → Entry k → T k → T k
@@ -298,7 +298,7 @@ withFrets v frets = record { frets = frets; hammer = v .hammer; last = v .last; 
 
 -- ---- adding
 
-module _ {T : Kind → Type 0} (the : Tables T) where
+module _ {T : Kind → Type 0} (the : Operations T) where
   -- entries one after another, from number n on
   abbrev pub addAll : (k : Kind) → ℕ → List (Entry k) → T k → T k
   addAll k n [] t = t
@@ -310,7 +310,7 @@ module _ {T : Kind → Type 0} (the : Tables T) where
   report (l ∷ ls) counts = report ls (set counts (lossNumber l) (the .plus (getD counts (lossNumber l) 0) 1))
 
   -- ---- a header
-  unfoldable pub addHeader : Song → ℕ → Time → Header → Heads T → Heads T
+  unfoldable pub addHeader : Opening → ℕ → Time → Header → Heads T → Heads T
   addHeader g bar time h w =
       record {
         bars = the .add bars bar (barOf (g .directions) bar time h (w .before)) (pick (goesOn (w .before) h) (the .goOn (bar - 1) (w .bars)) (w .bars));
@@ -431,7 +431,7 @@ module _ {T : Kind → Type 0} (the : Tables T) where
 
   -- ---- from the tables as they are lent
   module _ (lent : (k : Kind) → T k) where
-    unfoldable pub noBars : Song → Heads T
+    unfoldable pub noBars : Opening → Heads T
     noBars g =
         record {
           bars = lent bars;

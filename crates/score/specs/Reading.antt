@@ -6,7 +6,7 @@ use lib.Dec.{leb}
 use lib.ListN.{getD, length}
 use Rattle.bin.specs.Signed.{signed}
 use Rattle.format.specs.Text.{pick}
-use Rattle.format.specs.Outcome.{Outcome, whole, truncated, tooLong, badVersion, badCount, empty, outcome}
+use Rattle.format.specs.Verdict.{Verdict, whole, truncated, tooLong, badVersion, badCount, empty, verdict}
 use Rattle.tables.specs.Table.{over, words}
 use Rattle.model.specs.declared.Answer.{Answer}
 use Rattle.model.specs.declared.LyricLine.{LyricLine}
@@ -63,7 +63,7 @@ lyrics l =
     }
 
 -- the song's tempo is that of bar 0 if it has one, else the file's
-unfoldable pub songOf : F.Song → Tempo → ℕ → Song
+unfoldable pub songOf : F.Opening → Tempo → ℕ → Song
 songOf g first used =
     record {
       used = used;
@@ -132,7 +132,7 @@ fileAnswer x used =
 abbrev pub refused : Answer → Tables → Result
 refused a t = record { answer = a; tables = t }
 
-abbrev pub resultOf : Tables → Outcome Score → Result
+abbrev pub resultOf : Tables → Verdict Score → Result
 resultOf t (whole x used) = pick (enough (needed x) t) (record { answer = fileAnswer x used; tables = filled t x }) (refused (noRoomAnswer (needed x)) t)
 resultOf t truncated = refused (refusal O.Truncated) t
 resultOf t tooLong = refused (refusal O.TooLong) t
@@ -141,4 +141,4 @@ resultOf t (badCount which value) = refused (refusal (O.Count which (signed 2147
 resultOf t empty = refused (refusal O.Empty) t
 
 unfoldable pub reading : List ℕ → Tables → Result
-reading s t = resultOf t (outcome scored s)
+reading s t = resultOf t (verdict scored s)

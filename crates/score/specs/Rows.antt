@@ -101,16 +101,16 @@ bows P.Down = A.DownBow ∷ []
 unfoldable pub beatMarks : BeatEffects → List Articulation
 beatMarks e = bows (e .pick) ++ only (e .vibrato) A.Vibrato ++ only (e .tap) A.Tap
 
-abbrev pub addAll : List Articulation → List Articulation → List Articulation
-addAll done [] = done
-addAll done (a ∷ more) = addAll (addOnce a done) more
+abbrev pub addedAll : List Articulation → List Articulation → List Articulation
+addedAll done [] = done
+addedAll done (a ∷ more) = addedAll (addOnce a done) more
 
 abbrev pub marksOfNotes : BeatEffects → List Keyed → List Articulation
 marksOfNotes e [] = []
 marksOfNotes e (x ∷ xs) = noteMarks e (noteOf x) ++ marksOfNotes e xs
 
-unfoldable pub marksOf : BeatEffects → List Keyed → List Articulation
-marksOf e xs = addAll [] (marksOfNotes e xs ++ beatMarks e)
+unfoldable pub rowArticulations : BeatEffects → List Keyed → List Articulation
+rowArticulations e xs = addedAll [] (marksOfNotes e xs ++ beatMarks e)
 
 -- ---- technique and its text: members are gone through in key order; of each bend, hammer, slide, each only while the row has
 -- no technique. Palm mute overwrites the hammer mark; let ring does not
@@ -171,9 +171,9 @@ abbrev pub noPlay : Played
 noPlay = record { text = NoText; technique = NoTechnique; bend = [] }
 
 -- one dead note gives the X head
-abbrev pub headOf : List Keyed → NoteHead
-headOf [] = Normal
-headOf (x ∷ xs) = pick (noteOf x .dead) Cross (headOf xs)
+abbrev pub rowHead : List Keyed → NoteHead
+rowHead [] = Normal
+rowHead (x ∷ xs) = pick (noteOf x .dead) Cross (rowHead xs)
 
 abbrev pub curveOf : List BendPoint → List Point
 curveOf points = finish (map (λ p. pointOf (p .offset) (p .value)) points)
@@ -218,9 +218,9 @@ chordRow place board flat running b xs =
       technique = p .technique;
       curve = curveOf (p .bend);
       dynamic = levelAfter running (chordOf (levels xs)) .mark;
-      articulations = packed (marksOf (b .effects) xs);
+      articulations = packed (rowArticulations (b .effects) xs);
       arpeggio = b .effects .brush;
-      head = headOf xs;
+      head = rowHead xs;
       ottava = b .ottava;
       chord = b .chord .range;
     }

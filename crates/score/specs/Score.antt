@@ -19,7 +19,7 @@ use Rattle.score.specs.declared.Part.{Part}
 use Rattle.score.specs.declared.Voice.{Voice}
 use Rattle.score.specs.File.{Whole, file}
 use Rattle.score.specs.Bars.{followed, noBar}
-use Rattle.score.specs.Page.{Kind, Entry, TextIs, Tables, Staves, Walk, partOf, keeping}
+use Rattle.score.specs.Page.{Kind, Entry, TextIs, Operations, Staves, Walk, partOf, keeping}
 use Rattle.format.specs.Prog.{Prog}
 
 abbrev pub Lists : Kind → Type 0
@@ -82,7 +82,7 @@ withVoice (suc n) v p = record { board = p .board; running = p .running; first =
 abbrev pub withRunning : ℕ → Part → Part
 withRunning n p = record { board = p .board; running = n; first = p .first; second = p .second }
 
-abbrev pub lists : Tables Lists
+abbrev pub lists : Operations Lists
 lists =
     record {
       plus = λ a b. a + b;

@@ -11,7 +11,7 @@ use lib.ListN.{length, getD, take, drop, length-take, length-drop, drop-of-lengt
 use lib.Seq.{slice, drop-cons, drop-drop, getD-drop, getD-take, length-take-le, take-all}
 use lib.Dec.{leb, eqb}
 use Rattle.format.specs.Text.{pick}
-use Rattle.song.specs.Version.{PREFIX, starts, isDigit, digitsLen, digitsFrom, short, unplussed, numbered, versionOf, isFamily}
+use Rattle.song.specs.Version.{PREFIX, starts, isDigit, digitsLen, digitsFrom, short, unplussed, versionNumber, versionOf, isFamily}
 
 -- ---- a text starts as the first n bytes of the prefix: what is left to compare at i
 module _ (n : ℕ) (l : List ℕ) (i : ℕ) (h : n ≤ 20) (e : starts (take n PREFIX) l ≡ starts (drop i (take n PREFIX)) (drop i l)) where
@@ -132,8 +132,8 @@ pub short-held : (l : List ℕ) → short l ≡ true → digitsFrom 0 l ≤ 6553
 unfolding short
 short-held l e = leb-true _ _ (other (eqb (digitsLen l) 0) (leb (digitsFrom 0 l) 65535) e)
 
-pub not-short : (l : List ℕ) → short l ≡ false → 0 ≡ numbered l
-unfolding numbered
+pub not-short : (l : List ℕ) → short l ≡ false → 0 ≡ versionNumber l
+unfolding versionNumber
 not-short l s = simp s
 
 -- ---- digits, a point, digits: from a position on, where the first digits end at the point
@@ -142,25 +142,25 @@ module _ (t : List ℕ) (from point : ℕ) (e : point ≡ from + digitsLen (drop
   number dot minor = pick (short (drop from t)) (pick (eqb dot 46) (pick (short minor) (100 * digitsFrom 0 (drop from t) + digitsFrom 0 minor) 0) 0) 0
 
   -- what is looked at stands at the point
-  at-point : numbered (drop from t) ≡ number (getD t point 0) (drop (point + 1) t)
-  unfolding numbered number
+  at-point : versionNumber (drop from t) ≡ number (getD t point 0) (drop (point + 1) t)
+  unfolding versionNumber number
   at-point =
       let q : from + (digitsLen (drop from t) + 1) ≡ from + digitsLen (drop from t) + 1 = omega arith in
       rw (e, getD-drop from t (digitsLen (drop from t)) 0, drop-drop (digitsLen (drop from t) + 1) from t, q)
 
   module _ (s : short (drop from t) ≡ true) where
-    pub no-point : (getD t point 0 ≡ 46 → ⊥) → 0 ≡ numbered (drop from t)
+    pub no-point : (getD t point 0 ≡ 46 → ⊥) → 0 ≡ versionNumber (drop from t)
     unfolding number
     no-point d = sym (at-point ∙ simp (s, ne-eqb (getD t point 0) 46 d))
 
-    pub no-byte : length t ≤ point → 0 ≡ numbered (drop from t)
+    pub no-byte : length t ≤ point → 0 ≡ versionNumber (drop from t)
     no-byte h = no-point (λ q. let z : getD t point 0 ≡ 0 = List·getD-eq-default t 0 h in omega arith)
 
-    pub no-minor : getD t point 0 ≡ 46 → short (drop (point + 1) t) ≡ false → 0 ≡ numbered (drop from t)
+    pub no-minor : getD t point 0 ≡ 46 → short (drop (point + 1) t) ≡ false → 0 ≡ versionNumber (drop from t)
     unfolding number
     no-minor d m = sym (at-point ∙ simp (s, eq-eqb (getD t point 0) 46 d, m))
 
-    pub readable : (a b : ℕ) → getD t point 0 ≡ 46 → short (drop (point + 1) t) ≡ true → a ≡ min (digitsFrom 0 (drop from t)) 65536 → b ≡ min (digitsFrom 0 (drop (point + 1) t)) 65536 → 100 * a + b ≡ numbered (drop from t)
+    pub readable : (a b : ℕ) → getD t point 0 ≡ 46 → short (drop (point + 1) t) ≡ true → a ≡ min (digitsFrom 0 (drop from t)) 65536 → b ≡ min (digitsFrom 0 (drop (point + 1) t)) 65536 → 100 * a + b ≡ versionNumber (drop from t)
     unfolding number
     readable a b d m p q =
         let h = short-held (drop from t) s in
@@ -173,7 +173,7 @@ never true = refl
 never false = refl
 
 pub text-short : (t : List ℕ) → length t ≤ 20 → 0 ≡ versionOf t
-unfolding versionOf unplussed numbered short digitsLen
+unfolding versionOf unplussed versionNumber short digitsLen
 text-short t h = rw (drop-of-length-le t h) (never (starts PREFIX t))
 
 module _ (t : List ℕ) where
@@ -182,11 +182,11 @@ module _ (t : List ℕ) where
   text-other e = simp e
 
   module _ (e : starts PREFIX t ≡ true) where
-    pub text-plus : getD t 20 0 ≡ 43 → numbered (drop 21 t) ≡ versionOf t
+    pub text-plus : getD t 20 0 ≡ 43 → versionNumber (drop 21 t) ≡ versionOf t
     unfolding versionOf unplussed
     text-plus d = simp (e, getD-drop 20 t 0 0, eq-eqb (getD t 20 0) 43 d, drop-drop 1 20 t)
 
-    pub text-plain : (getD t 20 0 ≡ 43 → ⊥) → numbered (drop 20 t) ≡ versionOf t
+    pub text-plain : (getD t 20 0 ≡ 43 → ⊥) → versionNumber (drop 20 t) ≡ versionOf t
     unfolding versionOf unplussed
     text-plain d = simp (e, getD-drop 20 t 0 0, ne-eqb (getD t 20 0) 43 d)
 

@@ -4,7 +4,7 @@ use mathlib.Core.Bool.{Bool, false, not}
 use lib.Dec.{leb, eqb}
 use Rattle.format.specs.declared.Range.{Range}
 use Rattle.format.specs.declared.Counted.the-variants as C
-use Rattle.format.specs.Text.{Text, pick}
+use Rattle.format.specs.Text.{TextRead, pick}
 use Rattle.format.specs.Prog.{Prog, ret, bind, whenLe, turns}
 use Rattle.format.specs.Fields.{u8, u32, NEGATIVE, count, intByteStringUnused, intByteStringUnusedPast, intString}
 use Rattle.bin.specs.Signed.{lessOneWrapped}
@@ -29,7 +29,7 @@ names =
     ret (record { title = title .range; subtitle = subtitle .range; artist = artist .range })))))
 
 -- the music credit stands from v500 on; before, it is the words
-unfoldable pub music : ℕ → Text → Prog Text
+unfoldable pub music : ℕ → TextRead → Prog TextRead
 music v words = whenLe 500 v intByteStringUnused (ret words)
 
 -- the composer: the music credit, or the artist where that is empty

@@ -46,8 +46,8 @@ unfoldable pub unplussed : List ℕ → List ℕ
 unplussed l = pick (eqb (getD l 0 0) 43) (drop 1 l) l
 
 -- digits, ".", digits: hundreds times major plus minor, worked out without wrapping; 0 where it is unreadable
-unfoldable pub numbered : List ℕ → ℕ
-numbered l =
+unfoldable pub versionNumber : List ℕ → ℕ
+versionNumber l =
     pick (short l)
     (pick (eqb (getD l (digitsLen l) 0) 46)
     (pick (short (drop (digitsLen l + 1) l)) (100 * digitsFrom 0 l + digitsFrom 0 (drop (digitsLen l + 1) l)) 0)
@@ -56,7 +56,7 @@ numbered l =
 
 -- the number of a version's text, after cut and trim
 unfoldable pub versionOf : List ℕ → ℕ
-versionOf l = pick (starts PREFIX l) (numbered (unplussed (drop 20 l))) 0
+versionOf l = pick (starts PREFIX l) (versionNumber (unplussed (drop 20 l))) 0
 
 -- a number not in 300..599 is refused
 unfoldable pub accepted : ℕ → Prog ℕ

@@ -4,7 +4,7 @@ ghost use Prim.Native.Nat.{_+_, _≤_, min};
 ghost use lib.ListN.{take, drop};
 ghost use lib.Seq.{slice};
 ghost use Rattle.format.specs.Place.{Gives};
-ghost use Rattle.song.specs.Version.{PREFIX, starts, isDigit, digitsLen, digitsFrom, short, numbered, versionOf, isFamily, version};
+ghost use Rattle.song.specs.Version.{PREFIX, starts, isDigit, digitsLen, digitsFrom, short, versionNumber, versionOf, isFamily, version};
 use bin::Number;
 use format::Place;
 use format::Stop;
@@ -95,7 +95,7 @@ fn is_short(t: &[u8], from: usize) -> bool
 }
 
 fn number_at(t: &[u8], from: usize) -> u32
-    ensures { λ r. ⌜ r ≡ numbered (drop from (now (t .entry))) ⌝ }
+    ensures { λ r. ⌜ r ≡ versionNumber (drop from (now (t .entry))) ⌝ }
 {
     if !is_short(t, from) {
         return 0;

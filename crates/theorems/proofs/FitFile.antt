@@ -8,7 +8,7 @@ use borrow.Author.Tests.{leb-true}
 use lib.Dec.{leb, eqb}
 use lib.ListN.{length, getD, take}
 use lib.Seq.{take-at}
-use Rattle.format.specs.Outcome.{LIMIT, upTo}
+use Rattle.format.specs.Verdict.{LIMIT, upTo}
 use Rattle.format.specs.Text.{pick}
 use Rattle.format.specs.Prog.{Prog, ok, run}
 use Rattle.format.specs.Yields.{Yields, Bytes}
@@ -28,7 +28,7 @@ use Rattle.beat.specs.Head.{tupletOf, headOf, head}
 use Rattle.beat.specs.Beat.{beatNotes, beatBy, beat}
 use Rattle.score.proofs.Facts.{TimeFits, HeaderFacts, TrackFacts, common-time, header-facts, track-facts, beat-facts}
 use Rattle.score.proofs.Follow.{upto-bytes}
-use Rattle.score.specs.File.{Song, song, Timed, oneHeader, headers, oneTrack, tracks, oneBeat, voice, barTrack, bar}
+use Rattle.score.specs.File.{Opening, opening, Timed, oneHeader, headers, oneTrack, tracks, oneBeat, voice, barTrack, bar}
 use Rattle.score.specs.File.{bars, score, file}
 use Rattle.score.specs.Bars.{goesOn, barOf}
 use Rattle.score.specs.Page.{Heads, Staves, Walk, trackEntry, partOf, noBars, addHeader, noTracks, addTrack, noBeats}
@@ -74,8 +74,8 @@ programs-facts =
     (λ i t m f. yield-bind _ port-facts (λ ps _ _ h. yield-ret (all-set (All Byte) t i ps f h)))
     4 0 _ (all-replicate (All Byte) 4 noPort (all-replicate Byte 16 0 (omega arith)))
 
-song-programs : (s : List ℕ) (at : ℕ) → Yields s song at (λ g _. Programs (g .programs))
-unfolding song
+song-programs : (s : List ℕ) (at : ℕ) → Yields s opening at (λ g _. Programs (g .programs))
+unfolding opening
 song-programs s at =
     yield-after _ _ (λ _ _ _. yield-after _ _ (λ _ _ _. yield-after _ _ (λ _ _ _. yield-after _ _ (λ _ _ _.
     yield-after _ _ (λ _ _ _. yield-bind _ programs-facts (λ _ _ _ h.
@@ -84,8 +84,8 @@ song-programs s at =
 -- ---- a track: its channel and its program besides what TrackFacts says
 
 program-fits : (percussion : Bool) (programs : List (List ℕ)) (port channel : ℕ) → Programs programs
-    → ProgramFits (T.programOf percussion programs port channel)
-unfolding T.programOf
+    → ProgramFits (T.channelProgram percussion programs port channel)
+unfolding T.channelProgram
 program-fits percussion programs port channel f =
     pick-both ProgramFits percussion NoProgram _ tt
     (all-getD Byte (getD programs port []) channel 0 (all-getD (All Byte) programs port [] f tt) (omega arith))
@@ -173,7 +173,7 @@ module _ (s : List ℕ) (small : length s ≤ LIMIT) (bytes : Bytes s) where
   abbrev HeadsFit : Timed (Heads Lists) → ℕ → Type 0
   HeadsFit x n = TimeFits (x .time) × All BarFits (x .state .bars)
 
-  header-fits : (g : Song) (b at n : ℕ) (time : Time) (h : Header) (x : Heads Lists) → HeaderFacts s at h n
+  header-fits : (g : Opening) (b at n : ℕ) (time : Time) (h : Header) (x : Heads Lists) → HeaderFacts s at h n
       → All BarFits (x .bars) → All BarFits (addHeader lists g b time h x .bars)
   unfolding addHeader
   header-fits g b at n time h x k f =
@@ -183,7 +183,7 @@ module _ (s : List ℕ) (small : length s ≤ LIMIT) (bytes : Bytes s) where
       (go-on-fits (b - 1) (x .bars) f) f)
       (bar-fits s (g .directions) b at n time h (x .before) small k)
 
-  headers-fit : (g : Song) (at : ℕ) → Yields s (headers (keeping lists none) g) at HeadsFit
+  headers-fit : (g : Opening) (at : ℕ) → Yields s (headers (keeping lists none) g) at HeadsFit
   unfolding headers oneHeader noBars
   headers-fit g at =
       yield-turns HeadsFit _
@@ -191,7 +191,7 @@ module _ (s : List ℕ) (small : length s ≤ LIMIT) (bytes : Bytes s) where
       yield-ret (k .time, header-fits g b m n (x .time) h (x .state) k (f .1))))
       (g .counts .bars) 0 _ (common-time, tt)
 
-  tracks-fit : (g : Song) (u : Staves Lists) (at : ℕ) → Programs (g .programs) → StavesFit u
+  tracks-fit : (g : Opening) (u : Staves Lists) (at : ℕ) → Programs (g .programs) → StavesFit u
       → Yields s (tracks (keeping lists none) g u) at (λ u _. StavesFit u)
   unfolding tracks oneTrack addTrack
   tracks-fit g u at ps f =
@@ -209,7 +209,7 @@ module _ (s : List ℕ) (small : length s ≤ LIMIT) (bytes : Bytes s) where
   abbrev Fit : Walk Lists → ℕ → Type 0
   Fit w n = WalkFits w
 
-  bars-fit : (g : Song) (w : Walk Lists) (at : ℕ) → WalkFits w → Yields s (bars (keeping lists none) g w) at Fit
+  bars-fit : (g : Opening) (w : Walk Lists) (at : ℕ) → WalkFits w → Yields s (bars (keeping lists none) g w) at Fit
   unfolding bars bar barTrack voice oneBeat
   bars-fit g w at f =
       yield-turns Fit _ (λ b w m f. yield-turns Fit _ (λ t w m f.

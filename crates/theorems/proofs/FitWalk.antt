@@ -5,7 +5,7 @@ use mathlib.Core.Path.{refl, _∙_}
 use mathlib.Core.Bool.{Bool, true, false}
 use mathlib.Core.List.{List, [], _∷_, _++_}
 use lib.ListN.{length, getD, length-append}
-use Rattle.format.specs.Outcome.{LIMIT}
+use Rattle.format.specs.Verdict.{LIMIT}
 use Rattle.format.specs.Text.{pick}
 use Rattle.model.proofs.Fits.{TupletFits}
 use Rattle.entries.proofs.Fits.{RangeFits, BarFits, RowFits, MemberFits, PointFits}

@@ -12,12 +12,12 @@ use Rattle.format.specs.declared.Stop.the-variants as S
 use Rattle.format.specs.Text.{pick, textOf}
 use Rattle.format.specs.Prog.{Prog, ret, refuse, byte, pass, text, Res, ok, stopped, run}
 use Rattle.format.specs.Alike.{Alike, Kept}
-use Rattle.format.specs.Outcome as Ends
-use Rattle.format.specs.Outcome.{LIMIT, Outcome, whole, asOutcome, upTo, outcome}
+use Rattle.format.specs.Verdict as Ends
+use Rattle.format.specs.Verdict.{LIMIT, Verdict, whole, asVerdict, upTo, verdict}
 use Rattle.format.proofs.Run.{byte-ok, pass-ok, text-ok, run-within}
 use Rattle.format.proofs.Fits.{reads}
 use Rattle.format.proofs.Alike.{alike-run, same-run}
-use Rattle.format.proofs.Outcome.{outcome-short, outcome-long, outcome-whole, outcome-cut}
+use Rattle.format.proofs.Verdict.{verdict-short, verdict-long, verdict-whole, verdict-cut}
 use Rattle.score.proofs.Follow.{upto-all}
 use Rattle.score.specs.Score.{scored}
 use Rattle.score.specs.Reading.{Tables, Result, Score, songOf, needed, enough, filled, fileAnswer, refused, resultOf}
@@ -30,8 +30,8 @@ use Rattle.theorems.specs.Promise.{tooLong, noRoom}
 
 -- ---- a file and tables get one of the seven outcomes
 
-module _ (d : List ℕ) (t : Tables) (ends : Outcome Score)
-    (is : outcome scored d ≡ asOutcome ends (run scored (upTo LIMIT d) 0))
+module _ (d : List ℕ) (t : Tables) (ends : Verdict Score)
+    (is : verdict scored d ≡ asVerdict ends (run scored (upTo LIMIT d) 0))
     (cut : Stops d S.Ends → Seven d t (resultOf t ends)) where
   of-whole : (x : Score) (n : ℕ) → Beginning d x n → (room : Bool) → enough (needed x) t ≡ room
       → Seven d t
@@ -39,9 +39,9 @@ module _ (d : List ℕ) (t : Tables) (ends : Outcome Score)
   of-whole x n b true e = read b e
   of-whole x n b false e = noRoom b e
 
-  of-run : (x : Res Score) → run scored (upTo LIMIT d) 0 ≡ x → Seven d t (resultOf t (asOutcome ends x))
+  of-run : (x : Res Score) → run scored (upTo LIMIT d) 0 ≡ x → Seven d t (resultOf t (asVerdict ends x))
   of-run (ok x n) e =
-      let w = outcome-whole scored d x n .0 (is ∙ ap (asOutcome ends) e) in
+      let w = verdict-whole scored d x n .0 (is ∙ ap (asVerdict ends) e) in
       of-whole x n (record { limit = w .0; begins = w .1 }) (enough (needed x) t) refl
   of-run (stopped S.Ends) e = cut (record { stops = e })
   of-run (stopped S.Text) e = truncated (inr (record { stops = e }))
@@ -56,8 +56,8 @@ module _ (d : List ℕ) (t : Tables) (ends : Outcome Score)
 pub seven-outcomes : (d : List ℕ) (t : Tables) → Seven d t (reading d t)
 seven-outcomes d t = elim (decLe (length d) LIMIT) [
   | yes h ↦
-      of-reading d t Ends.truncated (outcome-short scored d h ∙ rw (upto-all LIMIT d h)) (λ s. truncated (inl (h, s)))
-  | no h ↦ of-reading d t Ends.tooLong (outcome-long scored d (omega arith)) (λ s. tooLong (omega arith) s)
+      of-reading d t Ends.truncated (verdict-short scored d h ∙ rw (upto-all LIMIT d h)) (λ s. truncated (inl (h, s)))
+  | no h ↦ of-reading d t Ends.tooLong (verdict-long scored d (omega arith)) (λ s. tooLong (omega arith) s)
 ]
 
 -- a kept position of what was read is one of the bytes used
@@ -136,8 +136,8 @@ past-counts {t = t} (noRoom b e) = untouched _ t
 -- ---- a beginning that fits
 
 module _ {d : List ℕ} {x : Score} {n : ℕ} (b : Beginning d x n) where
-  is-whole : outcome scored d ≡ whole x n
-  is-whole = outcome-whole scored d x n .1 (b .limit, b .begins)
+  is-whole : verdict scored d ≡ whole x n
+  is-whole = verdict-whole scored d x n .1 (b .limit, b .begins)
 
   pub fits-read : (t : Tables) → enough (needed x) t ≡ true
       → reading d t ≡ record { answer = fileAnswer x n; tables = filled t x }
@@ -150,12 +150,12 @@ module _ {d : List ℕ} {x : Score} {n : ℕ} (b : Beginning d x n) where
 
   pub fits-cut : (m : ℕ) → m < n → (t : Tables) → reading (take m d) t ≡ refused (refusal O.Truncated) t
   unfolding reading
-  fits-cut m l t = rw (outcome-cut scored d x n is-whole m l)
+  fits-cut m l t = rw (verdict-cut scored d x n is-whole m l)
 
   -- another file, of which a beginning fits too and gives the same
   pub same-reading : {e : List ℕ} → Beginning e x n → (t : Tables) → reading d t ≡ reading e t
   unfolding reading
-  same-reading c t = rw (is-whole, outcome-whole scored _ x n .1 (c .limit, c .begins))
+  same-reading c t = rw (is-whole, verdict-whole scored _ x n .1 (c .limit, c .begins))
 
   pub alike-begins : (e : List ℕ) → Alike scored d e 0 → Beginning e x n
   alike-begins e a =

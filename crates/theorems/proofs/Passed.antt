@@ -10,9 +10,9 @@ use lib.Dec.{leb}
 use lib.ListN.{getD, take, drop}
 use borrow.Author.Tests.{leb-false}
 use Rattle.format.specs.declared.Stop.the-variants as S
-use Rattle.format.specs.Text.{Text, pick, textOf}
+use Rattle.format.specs.Text.{TextRead, pick, textOf}
 use Rattle.format.specs.Prog.{Prog, ret, refuse, byte, pass, text, Res, ok, run, bind, whenLe}
-use Rattle.format.specs.Fields.{u8, number, skip, words, MAXSTRING, stringPast, fixedString}
+use Rattle.format.specs.Fields.{u8, number, skip, textBytes, MAXSTRING, stringPast, fixedString}
 use Rattle.format.specs.Fields.{intByteStringUnusedPast, intByteStringPast}
 use Rattle.format.specs.Alike.{Kept}
 use Rattle.format.proofs.Run.{run-ret, byte-goes, pass-goes, text-goes, byte-ok, pass-ok, text-ok}
@@ -74,7 +74,7 @@ template-keeps s at i (inr (inr (inr (inr k)))) = absurd (string-past-keeps-none
 
 -- "bytes of a fixed field past its stated length"
 pub fixed-keeps : (s : List ℕ) (at i width : ℕ) → Kept (fixedString width) s at i → i ≤ at + getD s at 0
-unfolding fixedString whenLe words skip u8 bind
+unfolding fixedString whenLe textBytes skip u8 bind
 fixed-keeps s at i width (inl e) = omega arith
 fixed-keeps s at i width (inr k) = go (leb (getD s at 0) width) refl k
   where

@@ -11,7 +11,7 @@ use Rattle.format.specs.declared.Stop.{Stop}
 use Rattle.format.specs.declared.Stop.the-variants as S
 use Rattle.format.specs.Prog.{stopped, run}
 use Rattle.format.specs.Fits.{Begins}
-use Rattle.format.specs.Outcome.{LIMIT, upTo}
+use Rattle.format.specs.Verdict.{LIMIT, upTo}
 use Rattle.model.specs.declared.Outcome.the-variants as O
 use Rattle.model.specs.Answers.{outcomeNumber, refusal, noRoomAnswer}
 use Rattle.score.specs.Score.{scored}

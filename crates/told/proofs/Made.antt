@@ -7,14 +7,14 @@ use lib.ListN.{length, length-append}
 use Rattle.format.specs.Prog.{Res, ok, stopped, run}
 use Rattle.format.specs.Yields.{Bytes}
 use Rattle.refine.proofs.All.{All, all-more}
-use Rattle.score.specs.File.{Song, Adding, Whole, file}
+use Rattle.score.specs.File.{Opening, Adding, Whole, file}
 use Rattle.score.proofs.Follow.{Both, Relations, Alike, Agreed, alike}
 use Rattle.told.specs.Told.{HeadTold, TrackTold, Event, enters, plays, TracksTold, EventsTold, Told, noting, told}
 use Rattle.told.specs.Told.{addHeads, addTracks, addEvent, addEvents, headsMade, tracksMade, eventsMade, made, Placed}
 
 module _ {H T W : Type 0} (add : Adding H T W) where
   -- ---- one more at the end
-  heads-more : (g : Song) (hs : List HeadTold) (h : HeadTold) (x : H)
+  heads-more : (g : Opening) (hs : List HeadTold) (h : HeadTold) (x : H)
       → addHeads add g (hs ++ (h ∷ [])) x ≡ add .addHeader g (h .bar) (h .before) (h .header) (addHeads add g hs x)
   heads-more g [] h x = refl
   heads-more g (k ∷ hs) h x = heads-more g hs h _
@@ -87,5 +87,5 @@ module _ {H T W : Type 0} (add : Adding H T W) where
             tells = f ∙ ap (λ (k : ℕ). ok y k) (sym (b .0));
             is = λ i. record { song = same i; tracks = made-tracks i; bars = made-bars i };
             placed = rw same at (b .1 .bars .1);
-            tracks = b .1 .bars .2 ∙ ap (λ (g : Song). g .counts .tracks) same;
+            tracks = b .1 .bars .2 ∙ ap (λ (g : Opening). g .counts .tracks) same;
           }

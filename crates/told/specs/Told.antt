@@ -6,7 +6,7 @@ use Rattle.model.specs.declared.Time.{Time}
 use Rattle.header.specs.declared.Header.{Header}
 use Rattle.track.specs.declared.Track.{Track}
 use Rattle.beat.specs.Beat.{BeatIs}
-use Rattle.score.specs.File.{Song, Adding, Whole, file}
+use Rattle.score.specs.File.{Opening, Adding, Whole, file}
 
 -- the header of a bar, with the time before it
 pub record HeadTold : Type 0 where
@@ -64,7 +64,7 @@ told = file noting
 
 -- ---- what is made of it: what was told is added, one after another
 module _ {H T W : Type 0} (add : Adding H T W) where
-  abbrev pub addHeads : Song → List HeadTold → H → H
+  abbrev pub addHeads : Opening → List HeadTold → H → H
   addHeads g [] x = x
   addHeads g (h ∷ hs) x = addHeads g hs (add .addHeader g (h .bar) (h .before) (h .header) x)
 
@@ -80,19 +80,19 @@ module _ {H T W : Type 0} (add : Adding H T W) where
   addEvents [] x = x
   addEvents (e ∷ es) x = addEvents es (addEvent e x)
 
-  abbrev pub headsMade : Song → List HeadTold → H
+  abbrev pub headsMade : Opening → List HeadTold → H
   headsMade g hs = addHeads g hs (add .headers g)
 
-  abbrev pub tracksMade : Song → TracksTold → T
+  abbrev pub tracksMade : Opening → TracksTold → T
   tracksMade g u = addTracks (u .tracks) (add .tracks (headsMade g (u .heads)))
 
-  abbrev pub eventsMade : Song → EventsTold → W
+  abbrev pub eventsMade : Opening → EventsTold → W
   eventsMade g w = addEvents (w .events) (add .bars (headsMade g (w .heads)) (tracksMade g (w .staves)))
 
   unfoldable pub made : Told → Whole T W
   made x = record { song = x .song; tracks = tracksMade (x .song) (x .tracks); bars = eventsMade (x .song) (x .bars) }
 
 -- ---- where a file's events stand: bars from 0 on, voices of tracks that there are
-abbrev pub Placed : Song → Event → Type 0
+abbrev pub Placed : Opening → Event → Type 0
 Placed g (enters bar) = bar < g .counts .bars
 Placed g (plays b) = (b .bar < g .counts .bars) × (b .track < g .counts .tracks) × (b .voice < 2)

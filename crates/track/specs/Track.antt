@@ -86,8 +86,8 @@ unfoldable pub clefOf : Bool → Strings → ℕ → Clef
 clefOf percussion s field = pick percussion Percussion (pick (low s || eqb field 12) Bass Treble)
 
 -- the program of the track's port and channel, absent for percussion
-unfoldable pub programOf : Bool → List (List ℕ) → ℕ → ℕ → Program
-programOf percussion programs port channel = pick percussion NoProgram (Midi (getD (getD programs port []) channel 0))
+unfoldable pub channelProgram : Bool → List (List ℕ) → ℕ → ℕ → Program
+channelProgram percussion programs port channel = pick percussion NoProgram (Midi (getD (getD programs port []) channel 0))
 
 -- ---- a whole track
 -- beside a stop
@@ -115,7 +115,7 @@ trackOf programs flags name s w f =
       tablature = tablatureOf (has flags 0x01) (s .count) (f .flags);
       clef = clefOf (has flags 0x01) s (f .clef);
       channel = w .channel;
-      program = programOf (has flags 0x01) programs (w .port) (w .channel);
+      program = channelProgram (has flags 0x01) programs (w .port) (w .channel);
     }
 
 -- flags, name, strings, sound and staff

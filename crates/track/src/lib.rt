@@ -222,7 +222,7 @@ fn clef_of(percussion: bool, strings: Strings, field: u32) -> Clef
 // The program of the port and channel, absent for percussion.
 fn program_of(percussion: bool, programs: [[u8; 16]; 4], port: usize, channel: usize) -> Program
     requires { ⌜ (port ≤ 3) × (channel ≤ 15) ⌝ }
-    ensures { λ r. ⌜ r ≡ track.programOf percussion programs port channel ⌝ }
+    ensures { λ r. ⌜ r ≡ track.channelProgram percussion programs port channel ⌝ }
 {
     if percussion {
         return Program::NoProgram;

@@ -6,7 +6,7 @@ use Rattle.model.specs.declared.Tempo.the-variants.{NoTempo}
 use Rattle.song.specs.Info.{noInfo, noLyrics}
 use Rattle.header.specs.Header.{noCounts}
 use Rattle.score.specs.declared.Before.{Before}
-use Rattle.score.specs.File.{Song}
+use Rattle.score.specs.File.{Opening}
 use Rattle.score.specs.Page.{Heads, Staves}
 use Rattle.words.specs.Words.{Words}
 
@@ -17,7 +17,7 @@ abbrev pub stavesOf : List ℕ → List ℕ → List ℕ → Staves Words
 stavesOf tracks parts losses = record { tracks = tracks; parts = parts; losses = losses }
 
 -- a song of which only the directions are known
-abbrev pub directing : List ℕ → Song
+abbrev pub directing : List ℕ → Opening
 directing numbers =
     record {
       version = 0;

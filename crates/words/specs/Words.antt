@@ -26,7 +26,7 @@ use Rattle.score.specs.declared.Remembered.{Remembered}
 use Rattle.score.specs.declared.Voice.{Voice}
 use Rattle.score.specs.Bars.{followed}
 use Rattle.score.specs.Page as Page
-use Rattle.score.specs.Page.{Kind, Entry, TextIs, Tables}
+use Rattle.score.specs.Page.{Kind, Entry, TextIs, Operations}
 use Rattle.score.specs.Score.{sameBytes}
 
 -- ---- a part: strings and tunings, capo, percussion, tablature; the running dynamic; the two voices
@@ -170,7 +170,7 @@ enteredWords s (suc i) x t =
     (pick (sameBytes (x .text .bytes) (slice (getD t (i * textStride + 2) 0) (getD t (i * textStride + 3) 0) s)) true (enteredWords s i x t))
     false
 
-abbrev pub words : List ℕ → Tables Words
+abbrev pub words : List ℕ → Operations Words
 words s =
     record {
       plus = wordPlus;

@@ -8,9 +8,9 @@ use lib.IntN.{pos, negsuc}
 use Rattle.format.specs.declared.Stop.the-variants as S
 use Rattle.format.specs.Text.{blank, cutLen, leadLen, keepLen, keepNext, cut, trim, rangeOf, textOf}
 use Rattle.format.specs.Prog.{Prog, ret, refuse, whenLe, run, ok}
-use Rattle.format.specs.Fields.{words}
+use Rattle.format.specs.Fields.{textBytes}
 use Rattle.model.specs.declared.Cents.{Cents}
-use Rattle.song.specs.Version.{PREFIX, starts, isDigit, digitsLen, digitsFrom, short, unplussed, numbered, versionOf, accepted}
+use Rattle.song.specs.Version.{PREFIX, starts, isDigit, digitsLen, digitsFrom, short, unplussed, versionNumber, versionOf, accepted}
 use Rattle.header.specs.Header.{commonTime, powerOfTwo, timeOf, endingOf, passesOf}
 use Rattle.curve.specs.Held.{held}
 use Rattle.curve.specs.Bend.{point, place, pointOf, finish, larger, curveHeight}
@@ -42,14 +42,14 @@ pub record Worked : Type 0 where
   pub mask-06 : (endingOf 0x06 ≡ 2) × (passesOf 0x06 ≡ 0b110)
   pub mask-04 : (endingOf 0x04 ≡ 3) × (passesOf 0x04 ≡ 0)
   -- text bytes 32, 65, 160, 0, 66 giving 65, which stands from 1 to 2
-  pub text : run (words 5) (32 ∷ 65 ∷ 160 ∷ 0 ∷ 66 ∷ []) 0 ≡ ok (record { range = record { start = 1; end = 2 }; bytes = 65 ∷ [] }) 5
+  pub text : run (textBytes 5) (32 ∷ 65 ∷ 160 ∷ 0 ∷ 66 ∷ []) 0 ≡ ok (record { range = record { start = 1; end = 2 }; bytes = 65 ∷ [] }) 5
   -- offset 59 as 983
   pub offset-59 : (value : ℕ) → place (pointOf 59 value) ≡ 983
   -- heights -100 then 100 giving 100
   pub heights-100 : curveHeight (finish (point 0 (down 100) ∷ point 1000 (up 100) ∷ [])) ≡ Given (up 100)
 
 pub worked : Worked
-unfolding starts isDigit digitsLen digitsFrom short unplussed numbered versionOf accepted whenLe timeOf powerOfTwo endingOf passesOf ones onesIn trailingZeros run words textOf cut trim rangeOf blank cutLen leadLen keepLen keepNext held pointOf finish curveHeight larger
+unfolding starts isDigit digitsLen digitsFrom short unplussed versionNumber versionOf accepted whenLe timeOf powerOfTwo endingOf passesOf ones onesIn trailingZeros run textBytes textOf cut trim rangeOf blank cutLen leadLen keepLen keepNext held pointOf finish curveHeight larger
 worked =
     record {
       v2-100 = refl;

@@ -1,12 +1,12 @@
 -- One part after another. Assumes nothing.
 use borrow.Author.Needs.{needs}
 use Rattle.format.proofs.Rules.{then, done}
-use Rattle.score.specs.File.{song}
+use Rattle.score.specs.File.{opening}
 use Rattle.front.proofs.song_at.Statement.{statement}
 use Rattle.front.proofs.song_at.Tie as tie
 
 pub song-at-spec : {M : Type 1} → statement M
-unfolding song
+unfolding opening
 song-at-spec =
     tie.close
     (tie.spec

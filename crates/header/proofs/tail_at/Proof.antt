@@ -1,12 +1,12 @@
 -- One field after another, where they stand. Assumes nothing.
 use borrow.Author.Needs.{needs}
 use Rattle.format.proofs.Rules.{reading}
-use Rattle.header.specs.Header.{tail}
+use Rattle.header.specs.Header.{headerTail}
 use Rattle.header.proofs.tail_at.Statement.{statement}
 use Rattle.header.proofs.tail_at.Tie as tie
 
 pub tail-at-spec : {M : Type 1} → statement M
-unfolding tail
+unfolding headerTail
 tail-at-spec =
     tie.close
     (tie.spec

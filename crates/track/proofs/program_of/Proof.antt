@@ -1,11 +1,11 @@
 -- By the test. Assumes nothing.
 use borrow.Author.Needs.{needs}
-use Rattle.track.specs.Track.{programOf}
+use Rattle.track.specs.Track.{channelProgram}
 use Rattle.track.proofs.program_of.Statement.{statement}
 use Rattle.track.proofs.program_of.Tie as tie
 
 pub program-of-spec : {M : Type 1} → statement M
-unfolding programOf
+unfolding channelProgram
 program-of-spec =
     tie.close
     (tie.spec

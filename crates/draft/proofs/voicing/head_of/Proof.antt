@@ -6,14 +6,14 @@ use mathlib.Core.List.{List}
 use mathlib.Core.Path.{_≡_, _∙_}
 use lib.ListN.{length, drop, drop-of-length-le}
 use Rattle.draft.specs.Chord.{chordIn}
-use Rattle.score.specs.Rows.{headOf}
+use Rattle.score.specs.Rows.{rowHead}
 use Rattle.draft.proofs.Walks.{next-head, dead-head}
 use Rattle.draft.proofs.voicing.head_of.Statement.{statement}
 use Rattle.draft.proofs.voicing.head_of.Tie as tie
 
 abbrev Inv-loop : tie.InvT-loop
 Inv-loop notes chord i₀ i =
-    (i ≤ length chord) × ((s : List ℕ) (v : ℕ) → headOf (chordIn s v notes (drop i chord)) ≡ headOf (chordIn s v notes chord))
+    (i ≤ length chord) × ((s : List ℕ) (v : ℕ) → rowHead (chordIn s v notes (drop i chord)) ≡ rowHead (chordIn s v notes chord))
 
 abbrev μ-loop : tie.MeasureT-loop
 μ-loop notes chord i₀ i = length chord - i

@@ -25,7 +25,7 @@ Inv-loop b notes chord v harmonic played₀ m₀ i₀ played m i =
     (i ≤ length chord)
     × ((s : List ℕ) → rule.played (playedIn s played) (chordIn s v notes (drop i chord)) ≡ rule.played rule.noPlay (chordIn s v notes chord))
     × ((s : List ℕ) → addMarks (addedIn m) (rule.marksOfNotes (effectsIn v b) (chordIn s v notes (drop i chord)) ++ rule.beatMarks (effectsIn v b))
-    ≡ packed (rule.marksOf (effectsIn v b) (chordIn s v notes chord)))
+    ≡ packed (rule.rowArticulations (effectsIn v b) (chordIn s v notes chord)))
 
 abbrev μ-loop : tie.MeasureT-loop
 μ-loop b notes chord v harmonic played₀ m₀ i₀ played m i = length chord - i

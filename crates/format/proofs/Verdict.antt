@@ -12,34 +12,34 @@ use Rattle.format.specs.declared.Stop.{Stop}
 use Rattle.format.specs.declared.Stop.the-variants as S
 use Rattle.format.specs.Prog.{Prog, Res, ok, stopped, run}
 use Rattle.format.specs.Fits.{Begins}
-use Rattle.format.specs.Outcome.{LIMIT, Outcome, whole, truncated, tooLong, stopOutcome, asOutcome, upTo, outcome}
+use Rattle.format.specs.Verdict.{LIMIT, Verdict, whole, truncated, tooLong, stopVerdict, asVerdict, upTo, verdict}
 use Rattle.format.proofs.Run.{run-cut, run-within, clash}
 use Rattle.format.proofs.Fits.{reads}
 
-pub outcome-short : {A : Type 0} (p : Prog A) (s : List ℕ) → length s ≤ LIMIT → outcome p s ≡ asOutcome truncated (run p s 0)
-unfolding outcome
-outcome-short p s h = simp (le-leb _ _ h)
+pub verdict-short : {A : Type 0} (p : Prog A) (s : List ℕ) → length s ≤ LIMIT → verdict p s ≡ asVerdict truncated (run p s 0)
+unfolding verdict
+verdict-short p s h = simp (le-leb _ _ h)
 
-pub outcome-long : {A : Type 0} (p : Prog A) (s : List ℕ) → LIMIT < length s → outcome p s ≡ asOutcome tooLong (run p (upTo LIMIT s) 0)
-unfolding outcome
-outcome-long p s h = simp (lt-leb _ _ h)
+pub verdict-long : {A : Type 0} (p : Prog A) (s : List ℕ) → LIMIT < length s → verdict p s ≡ asVerdict tooLong (run p (upTo LIMIT s) 0)
+unfolding verdict
+verdict-long p s h = simp (lt-leb _ _ h)
 
 -- no stop is a whole file
-never-whole : {A X : Type 0} (o : Outcome A) (x : Stop) (a : A) (n : ℕ) → (o ≡ whole a n → ⊥) → stopOutcome o x ≡ whole a n → X
+never-whole : {A X : Type 0} (o : Verdict A) (x : Stop) (a : A) (n : ℕ) → (o ≡ whole a n → ⊥) → stopVerdict o x ≡ whole a n → X
 never-whole o S.Ends a n d e = absurd (d e)
 never-whole o S.Text a n d e = clash (cc)
 never-whole o S.Version a n d e = clash (cc)
 never-whole o (S.Count w v) a n d e = clash (cc)
 never-whole o S.Empty a n d e = clash (cc)
 
-was-ok : {A : Type 0} (o : Outcome A) (x : Res A) (a : A) (n : ℕ) → (o ≡ whole a n → ⊥) → asOutcome o x ≡ whole a n → x ≡ ok a n
+was-ok : {A : Type 0} (o : Verdict A) (x : Res A) (a : A) (n : ℕ) → (o ≡ whole a n → ⊥) → asVerdict o x ≡ whole a n → x ≡ ok a n
 was-ok o (ok b m) a n d e = cc
 was-ok o (stopped x) a n d e = never-whole o x a n d e
 
-never-cut : {A : Type 0} (a : A) (n : ℕ) → _≡_ {A = Outcome A} truncated (whole a n) → ⊥
+never-cut : {A : Type 0} (a : A) (n : ℕ) → _≡_ {A = Verdict A} truncated (whole a n) → ⊥
 never-cut a n e = clash (cc)
 
-never-long : {A : Type 0} (a : A) (n : ℕ) → _≡_ {A = Outcome A} tooLong (whole a n) → ⊥
+never-long : {A : Type 0} (a : A) (n : ℕ) → _≡_ {A = Verdict A} tooLong (whole a n) → ⊥
 never-long a n e = clash (cc)
 
 -- a beginning of at most the limit is one of what is read of a longer file
@@ -57,27 +57,27 @@ begins-long limit p s a n h b =
     (b .0, take (limit - n) (b .1), e, b .3, b .4)
 
 -- a file is read whole exactly where a beginning of it, of at most LIMIT bytes, fits
-pub outcome-whole : {A : Type 0} (p : Prog A) (s : List ℕ) (a : A) (n : ℕ) → outcome p s ≡ whole a n ↔ ((n ≤ LIMIT) × Begins p s a n)
-outcome-whole p s a n = elim (decLe (length s) LIMIT) [
+pub verdict-whole : {A : Type 0} (p : Prog A) (s : List ℕ) (a : A) (n : ℕ) → verdict p s ≡ whole a n ↔ ((n ≤ LIMIT) × Begins p s a n)
+verdict-whole p s a n = elim (decLe (length s) LIMIT) [
   | yes h ↦ (
-    λ e. let b = reads p s a n .0 (was-ok truncated (run p s 0) a n (never-cut a n) (sym (outcome-short p s h) ∙ e)) in
+    λ e. let b = reads p s a n .0 (was-ok truncated (run p s 0) a n (never-cut a n) (sym (verdict-short p s h) ∙ e)) in
         (omega (arith, b .3, simp length-append at (ap length (b .2))), b),
-    λ w. outcome-short p s h ∙ rw (reads p s a n .1 (w .1)),
+    λ w. verdict-short p s h ∙ rw (reads p s a n .1 (w .1)),
   )
   | no h ↦ (
     λ e. long-begins LIMIT p s a n
-        (reads p (upTo LIMIT s) a n .0 (was-ok tooLong (run p (upTo LIMIT s) 0) a n (never-long a n) (sym (outcome-long p s (omega arith)) ∙ e))),
-    λ w. outcome-long p s (omega arith) ∙ rw (reads p (upTo LIMIT s) a n .1 (begins-long LIMIT p s a n (w .0) (w .1))),
+        (reads p (upTo LIMIT s) a n .0 (was-ok tooLong (run p (upTo LIMIT s) 0) a n (never-long a n) (sym (verdict-long p s (omega arith)) ∙ e))),
+    λ w. verdict-long p s (omega arith) ∙ rw (reads p (upTo LIMIT s) a n .1 (begins-long LIMIT p s a n (w .0) (w .1))),
   )
 ]
 
-module _ {A : Type 0} (p : Prog A) (s : List ℕ) (a : A) (n : ℕ) (e : outcome p s ≡ whole a n) where
+module _ {A : Type 0} (p : Prog A) (s : List ℕ) (a : A) (n : ℕ) (e : verdict p s ≡ whole a n) where
   was-read : run p s 0 ≡ ok a n
-  was-read = reads p s a n .1 (outcome-whole p s a n .0 e .1)
+  was-read = reads p s a n .1 (verdict-whole p s a n .0 e .1)
 
   -- every shorter beginning is truncated
-  pub outcome-cut : (m : ℕ) → m < n → outcome p (take m s) ≡ truncated
-  outcome-cut m l =
+  pub verdict-cut : (m : ℕ) → m < n → verdict p (take m s) ≡ truncated
+  verdict-cut m l =
       let w = run-within p s 0 n a (omega arith) was-read in
-      let k = outcome-whole p s a n .0 e .0 in
-      outcome-short p (take m s) (simp length-take (omega arith)) ∙ rw (run-cut p s 0 n m a (omega arith) l (omega arith) was-read)
+      let k = verdict-whole p s a n .0 e .0 in
+      verdict-short p (take m s) (simp length-take (omega arith)) ∙ rw (run-cut p s 0 n m a (omega arith) l (omega arith) was-read)

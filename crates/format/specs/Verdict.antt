@@ -13,31 +13,31 @@ abbrev pub LIMIT : ℕ
 LIMIT = 16777216
 
 -- the outcomes of reading, without "no room": a file read whole with its bytes used, truncated, too long, or refused
-pub data Outcome (A : Type 0) : Type 0 where
-  whole : A → ℕ → Outcome A
-  truncated : Outcome A
-  tooLong : Outcome A
-  badVersion : Outcome A
-  badCount : Counted → ℕ → Outcome A
-  empty : Outcome A
+pub data Verdict (A : Type 0) : Type 0 where
+  whole : A → ℕ → Verdict A
+  truncated : Verdict A
+  tooLong : Verdict A
+  badVersion : Verdict A
+  badCount : Counted → ℕ → Verdict A
+  empty : Verdict A
 
 -- why reading stopped, as an outcome: what it is that the bytes end is given
-abbrev pub stopOutcome : {A : Type 0} → Outcome A → Stop → Outcome A
-stopOutcome ends S.Ends = ends
-stopOutcome ends S.Text = truncated
-stopOutcome ends S.Version = badVersion
-stopOutcome ends (S.Count which value) = badCount which value
-stopOutcome ends S.Empty = empty
+abbrev pub stopVerdict : {A : Type 0} → Verdict A → Stop → Verdict A
+stopVerdict ends S.Ends = ends
+stopVerdict ends S.Text = truncated
+stopVerdict ends S.Version = badVersion
+stopVerdict ends (S.Count which value) = badCount which value
+stopVerdict ends S.Empty = empty
 
-abbrev pub asOutcome : {A : Type 0} → Outcome A → Res A → Outcome A
-asOutcome ends (ok a n) = whole a n
-asOutcome ends (stopped x) = stopOutcome ends x
+abbrev pub asVerdict : {A : Type 0} → Verdict A → Res A → Verdict A
+asVerdict ends (ok a n) = whole a n
+asVerdict ends (stopped x) = stopVerdict ends x
 
 -- a beginning of the file, of at most n bytes
 unfoldable pub upTo : ℕ → List ℕ → List ℕ
 upTo n s = take n s
 
 -- at most LIMIT bytes are read: where those end, it is the file that ends, or the limit that was met
-unfoldable pub outcome : {A : Type 0} → Prog A → List ℕ → Outcome A
-outcome p s =
-    pick (leb (length s) LIMIT) (asOutcome truncated (run p s 0)) (asOutcome tooLong (run p (upTo LIMIT s) 0))
+unfoldable pub verdict : {A : Type 0} → Prog A → List ℕ → Verdict A
+verdict p s =
+    pick (leb (length s) LIMIT) (asVerdict truncated (run p s 0)) (asVerdict tooLong (run p (upTo LIMIT s) 0))
