@@ -1,11 +1,11 @@
 // What stands before the beats: the song, the headers and the tracks.
 use format::Place;
 use header::Counts;
+use model::Lyrics;
 use model::Tempo;
 use model::Time;
 use score::Before;
 use song::info::Info;
-use song::info::Lyrics;
 ghost use Rattle.format.specs.Place.{Reaches};
 ghost use Rattle.format.specs.Prog.{turns};
 ghost use Rattle.score.specs.File as file;

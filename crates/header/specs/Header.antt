@@ -14,7 +14,7 @@ use Rattle.model.specs.declared.Key.the-variants.{NoKey, Fifths}
 use Rattle.format.specs.Text.{TextRead, noText, pick}
 use Rattle.format.specs.Prog.{Prog, ret, refuse, bind, whenLe, whenEq, whenBits, has}
 use Rattle.format.specs.Fields.{u8, skip, count, intByteString}
-use Rattle.song.specs.Info.{noRange}
+use Rattle.model.specs.Answers.{noRange}
 use Rattle.header.specs.declared.Counts.{Counts}
 use Rattle.header.specs.declared.Header.{Header}
 use Rattle.header.specs.declared.Marks.{Marks}

@@ -10,12 +10,12 @@ use crate::Sizes;
 use crate::Song;
 use crate::Tempo;
 use format::Counted;
-use format::Range;
+use format::NO_RANGE;
 ghost use mathlib.Core.Path.{_≡_};
 ghost use lib.ListN.{getD, set};
 ghost use Rattle.tables.specs.Table.{oneMore};
 ghost use Rattle.format.specs.Fields.{countNumber};
-ghost use Rattle.model.specs.Answers.{outcomeNumber, outcomeWhich, outcomeValue, noSizes, noLosses, noSong, readAnswer, refusal, noRoomAnswer, lossNumber, lossWords, lossesOf};
+ghost use Rattle.model.specs.Answers.{outcomeNumber, outcomeWhich, outcomeValue, noSizes, noLosses, noLyrics, noSong, readAnswer, refusal, noRoomAnswer, lossNumber, lossWords, lossesOf};
 
 pub fn count_number(x: Counted) -> u32
     ensures { λ r. ⌜ r ≡ countNumber x ⌝ }
@@ -91,19 +91,26 @@ fn no_losses() -> Losses
     losses_of(&[0; 17])
 }
 
+// No lyric track, and five empty lines from the start.
+pub fn no_lyrics() -> Lyrics
+    ensures { λ r. ⌜ r ≡ noLyrics ⌝ }
+{
+    let line = LyricLine {
+        start: 0,
+        text: NO_RANGE,
+    };
+    let lines = [line; 5];
+    Lyrics {
+        track: LyricTrack::NoLyricTrack,
+        lines,
+    }
+}
+
 fn no_song() -> Song
     ensures { λ r. ⌜ r ≡ noSong ⌝ }
 {
-    let nothing = Range { start: 0, end: 0 };
-    let line = LyricLine {
-        start: 0,
-        text: nothing,
-    };
-    let lines = [line; 5];
-    let lyrics = Lyrics {
-        track: LyricTrack::NoLyricTrack,
-        lines,
-    };
+    let nothing = NO_RANGE;
+    let lyrics = no_lyrics();
     Song {
         used: 0,
         version: 0,

@@ -10,7 +10,7 @@ use Rattle.model.specs.declared.Point.{Point}
 use Rattle.curve.specs.Bend.{curveHeight}
 use Rattle.score.specs.declared.Kept.{Kept}
 use Rattle.score.specs.declared.Voice.{Voice}
-use Rattle.score.specs.Page.{Rowing, spanOf, textLeft, heightAt, dynamicAt, plainFinger, firstKey, hammerAfter, lastAfter, runAfter}
+use Rattle.score.specs.Page.{Rowing, spanOf, textLeft, dynamicAt, plainFinger, firstKey, hammerAfter, lastAfter, runAfter}
 use Rattle.score.specs.Rows.{RowIs}
 use Rattle.draft.specs.declared.Draft.{Draft}
 use Rattle.draft.specs.Meant.{drawn}
@@ -33,7 +33,7 @@ pub record Sums (members : List Member) (x : Company) : Type 0 where
 -- and of its curve
 pub record Bends (curve : List Point) (x : Bent) : Type 0 where
   pub count : length curve ≡ x .count
-  pub height : heightAt (curveHeight curve) ≡ x .height
+  pub height : curveHeight curve ≡ x .height
 
 -- what a row does to the rows before it depends on neither, but for its first key
 abbrev pub undrawn : Draft → RowIs
@@ -41,7 +41,7 @@ undrawn d = drawn [] [] d
 
 -- what a row holds of its curve
 abbrev pub bentOf : List Point → Bent
-bentOf curve = record { count = length curve; height = heightAt (curveHeight curve) }
+bentOf curve = record { count = length curve; height = curveHeight curve }
 
 abbrev pub playingOf : RowIs → Bent → (first : ℕ) → Playing
 playingOf r bent first =

@@ -13,7 +13,6 @@ ghost use Rattle.entries.specs.Words.{pointStride, pointWords};
 ghost use Rattle.curve.specs.Slots.{shown};
 ghost use Rattle.note.specs.Points.{word, bendIn};
 ghost use Rattle.score.specs.Rows.{curveOf};
-ghost use Rattle.score.specs.Page.{heightAt};
 ghost use Rattle.page.specs.Entry.{bentOf};
 
 // What a row holds of its curve: how many points, and its height.
@@ -99,15 +98,6 @@ fn add_points(points: &mut [u32], first: u32, curve: Slots)
     }
 }
 
-fn height_at(height: bend::Height) -> Height
-    ensures { λ r. ⌜ r ≡ heightAt height ⌝ }
-{
-    match height {
-        bend::Height::Absent => Height::NoHeight,
-        bend::Height::Given(c) => Height::Peak(c),
-    }
-}
-
 // A note without a bend, as most are, costs no curve.
 pub(crate) fn add_curve(s: &[u8], points: &mut [u32], first: u32, bend: Bend) -> Bent
     ensures points { λ _. ⌜ now (points .exit)
@@ -120,6 +110,6 @@ pub(crate) fn add_curve(s: &[u8], points: &mut [u32], first: u32, bend: Bend) ->
     let curve = curve_of(s, bend);
     add_points(points, first, curve);
     let count = bend::point_count(curve) as u32;
-    let height = height_at(bend::curve_height(curve));
+    let height = bend::curve_height(curve);
     Bent { count, height }
 }

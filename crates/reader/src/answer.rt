@@ -6,16 +6,12 @@ use front::SongRead;
 use header::Counts;
 use model::Answer;
 use model::Losses;
-use model::LyricLine;
-use model::LyricTrack;
-use model::Lyrics;
 use model::Outcome;
 use model::Sizes;
 use model::Song;
 use model::Tempo;
 use model::kinds;
 use score::Tally;
-use song::info;
 ghost use mathlib.Core.Path.{_≡_};
 ghost use mathlib.Core.List.{[]};
 ghost use Rattle.bin.specs.Signed.{signed};
@@ -103,45 +99,6 @@ pub fn has_room(
         & (rooms.texts as usize <= entries::texts::text_room(texts))
 }
 
-fn lyric_track(track: info::LyricTrack) -> LyricTrack
-    ensures { λ r. ⌜ r ≡ reading.lyricTrack track ⌝ }
-{
-    match track {
-        info::LyricTrack::NoLyrics => LyricTrack::NoLyricTrack,
-        info::LyricTrack::Nth(n) => LyricTrack::Under(n),
-    }
-}
-
-fn lyric_line(line: info::LyricLine) -> LyricLine
-    ensures { λ r. ⌜ r ≡ reading.lyricLine line ⌝ }
-{
-    let text = line.text;
-    LyricLine {
-        start: line.start,
-        text,
-    }
-}
-
-fn lyrics_of(sung: info::Lyrics) -> Lyrics
-    ensures { λ r. ⌜ r ≡ reading.lyrics sung ⌝ }
-{
-    let named = sung.track;
-    let track = lyric_track(named);
-    let first = sung.first;
-    let second = sung.second;
-    let third = sung.third;
-    let fourth = sung.fourth;
-    let fifth = sung.fifth;
-    let lines = [
-        lyric_line(first),
-        lyric_line(second),
-        lyric_line(third),
-        lyric_line(fourth),
-        lyric_line(fifth),
-    ];
-    Lyrics { track, lines }
-}
-
 // The tempo of bar 0 if it has one, else the file's.
 fn tempo_of(first: Tempo, file: Tempo) -> Tempo
     ensures { λ r. ⌜ r ≡ firstTempo first file ⌝ }
@@ -161,8 +118,7 @@ fn song_of(song: SongRead, first: Tempo, used: usize) -> Song
     let composer = info.composer;
     let lyricist = info.lyricist;
     let copyright = info.copyright;
-    let sung = song.lyrics;
-    let lyrics = lyrics_of(sung);
+    let lyrics = song.lyrics;
     let file = song.tempo;
     let tempo = tempo_of(first, file);
     Song {

@@ -19,7 +19,7 @@ use Rattle.model.specs.declared.Time.{Time}
 use Rattle.model.proofs.Fits.{EndingFits, PassesFit}
 use Rattle.entries.proofs.Fits.{RangeFits, BarFits}
 use Rattle.header.specs.declared.Header.{Header}
-use Rattle.track.specs.declared.Track.{Track}
+use Rattle.track.specs.declared.TrackHeader.{TrackHeader}
 use Rattle.score.specs.declared.Before.{Before}
 use Rattle.score.specs.declared.Part.{Part}
 use Rattle.score.specs.declared.Voice.{Voice}
@@ -88,7 +88,7 @@ bar-losses-length g b h =
       report-if-length (several (g .directions) b) UnsupportedDirection,
     ))
 
-track-losses-length : (u : Track) → length (trackLosses u) ≤ 1
+track-losses-length : (u : TrackHeader) → length (trackLosses u) ≤ 1
 unfolding trackLosses
 track-losses-length u = report-if-length (u .percussion) DrumKit
 
@@ -218,7 +218,7 @@ all-bytes : (ts : List ℕ) → ((i : ℕ) → getD ts i 0 ≤ 127) → All Byte
 all-bytes [] f = tt
 all-bytes (x ∷ ts) f = (omega (arith, f 0), all-bytes ts (λ i. f (suc i)))
 
-pub board-fits : (s : List ℕ) (at n : ℕ) (u : Track) → TrackFacts s at u n → BoardFits (partOf u .board)
+pub board-fits : (s : List ℕ) (at n : ℕ) (u : TrackHeader) → TrackFacts s at u n → BoardFits (partOf u .board)
 board-fits s at n u f =
     record {
       count = omega (arith, f .strings);
@@ -230,7 +230,7 @@ board-fits s at n u f =
 fresh-voice : FreshVoice noVoice
 fresh-voice = record { hammer = refl; last = refl; run = refl }
 
-fresh-part : (u : Track) → FreshPart (partOf u)
+fresh-part : (u : TrackHeader) → FreshPart (partOf u)
 fresh-part u = record { first = fresh-voice; second = fresh-voice }
 
 module _ (s : List ℕ) (t : Lent) where
@@ -249,7 +249,7 @@ module _ (s : List ℕ) (t : Lent) where
         few = r .few;
       }
 
-module _ (s : List ℕ) (small : length s ≤ LIMIT) (t : Lent) (k : ℕ) (u : Track) (x : Staves Lists) (y : Staves Words)
+module _ (s : List ℕ) (small : length s ≤ LIMIT) (t : Lent) (k : ℕ) (u : TrackHeader) (x : Staves Lists) (y : Staves Words)
     (at n : ℕ) (f : TrackFacts s at u n) (r : StavesShown s t k x y at) where
   pub track-shown : StavesShown s t (k + 1) (addTrack lists k u x) (addTrack (words s) k u y) n
   unfolding addTrack

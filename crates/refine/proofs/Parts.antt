@@ -3,7 +3,7 @@ use Prim.Native.Nat.{ℕ, zero, suc, _<_}
 use mathlib.Core.Path.{_≡_, refl}
 use native.Mathlib.Omega.{arith}
 use lib.ListN.{length, length-append, length-map}
-use Rattle.track.specs.declared.Track.{Track}
+use Rattle.track.specs.declared.TrackHeader.{TrackHeader}
 use Rattle.score.specs.declared.Fretboard.{Fretboard}
 use Rattle.score.specs.declared.Hammer.{Hammer}
 use Rattle.score.specs.declared.Hammer.the-variants.{NoHammer, Waits}
@@ -56,7 +56,7 @@ pub record PartFits (p : Part) : Type 0 where
 no-voice-fits : VoiceFits noVoice
 no-voice-fits = record { strings = refl; frets = all-replicate FretFits 7 nothing tt; hammer = tt }
 
-pub part-of-fits : (t : Track) → BoardFits (partOf t .board) → PartFits (partOf t)
+pub part-of-fits : (t : TrackHeader) → BoardFits (partOf t .board) → PartFits (partOf t)
 part-of-fits t f = record { board = f; running = omega arith; first = no-voice-fits; second = no-voice-fits }
 
 pub voice-of-fits : (n : ℕ) (p : Part) → PartFits p → VoiceFits (voiceOf n p)

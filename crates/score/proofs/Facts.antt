@@ -35,7 +35,7 @@ use Rattle.curve.specs.declared.level.Level.the-variants.{Absent, Given}
 use Rattle.curve.specs.Level.{heldLevel, noteLevel}
 use Rattle.header.specs.declared.Counts.{Counts}
 use Rattle.header.specs.declared.Header.{Header}
-use Rattle.track.specs.declared.Track.{Track}
+use Rattle.track.specs.declared.TrackHeader.{TrackHeader}
 use Rattle.header.specs.Header as H
 use Rattle.track.specs.Track as T
 use Rattle.note.specs.declared.marks.GraceNote.{GraceNote}
@@ -99,7 +99,7 @@ pub record TuningsFit (ts : List ℕ) : Type 0 where
   pub seven : length ts ≡ 7
   pub each : (i : ℕ) → getD ts i 0 ≤ 127
 
-pub record TrackFacts (s : List ℕ) (at : ℕ) (t : Track) (n : ℕ) : Type 0 where
+pub record TrackFacts (s : List ℕ) (at : ℕ) (t : TrackHeader) (n : ℕ) : Type 0 where
   pub starts : at + 1 ≤ n
   pub ends : n ≤ length s
   pub name : Inside (length s) (t .name)

@@ -13,7 +13,7 @@ use Rattle.format.proofs.Run.{andThen, run-bind, run-within}
 use Rattle.format.proofs.Yields.{yield-ret, yield-after, yield-bind, yield-le}
 use Rattle.model.specs.declared.Time.{Time}
 use Rattle.header.specs.declared.Header.{Header}
-use Rattle.track.specs.declared.Track.{Track}
+use Rattle.track.specs.declared.TrackHeader.{TrackHeader}
 use Rattle.beat.specs.Beat.{BeatIs}
 use Rattle.score.specs.File.{Opening, opening, voices, Timed, Adding, Whole, oneHeader, headers, oneTrack, tracks}
 use Rattle.score.specs.File.{oneBeat, voice, barTrack, bar, bars, score, file}
@@ -109,7 +109,7 @@ module _ {H H' T T' W W' : Type 0} (s : List ℕ) (R : Relations H H' T T' W W')
         → R .headers g (b + 1) (A .addHeader g b time h x) (B .addHeader g b time h y) n
     pub tracks : (g : Opening) (x : H) (y : H') (at : ℕ) → CountsFacts (g .counts)
         → R .headers g (g .counts .bars) x y at → R .tracks g 0 (A .tracks x) (B .tracks y) at
-    pub track : (g : Opening) (t : ℕ) (u : Track) (x : T) (y : T') (at n : ℕ) → CountsFacts (g .counts)
+    pub track : (g : Opening) (t : ℕ) (u : TrackHeader) (x : T) (y : T') (at n : ℕ) → CountsFacts (g .counts)
         → t < g .counts .tracks → TrackFacts s at u n → R .tracks g t x y at
         → R .tracks g (t + 1) (A .addTrack t u x) (B .addTrack t u y) n
     pub bars : (g : Opening) (h : H) (h' : H') (t : T) (t' : T') (earlier at : ℕ) → CountsFacts (g .counts)

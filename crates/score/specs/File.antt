@@ -9,10 +9,10 @@ use Rattle.format.specs.declared.Counted.the-variants as C
 use Rattle.format.specs.Prog.{Prog, ret, bind, whenLe, turns}
 use Rattle.format.specs.Fields.{skip, count}
 use Rattle.song.specs.declared.info.Info.{Info}
-use Rattle.song.specs.declared.info.Lyrics.{Lyrics}
+use Rattle.model.specs.declared.Lyrics.{Lyrics}
 use Rattle.header.specs.declared.Counts.{Counts}
 use Rattle.header.specs.declared.Header.{Header}
-use Rattle.track.specs.declared.Track.{Track}
+use Rattle.track.specs.declared.TrackHeader.{TrackHeader}
 use Rattle.song.specs.Version.{version}
 use Rattle.song.specs.Info.{info, tripletFeel, lyrics}
 use Rattle.song.specs.Setup.{setup, channelTable, directions}
@@ -58,7 +58,7 @@ pub record Adding (H T W : Type 0) : Type 0 where
   pub headers : Opening → H
   pub addHeader : Opening → ℕ → Time → Header → H → H
   pub tracks : H → T
-  pub addTrack : ℕ → Track → T → T
+  pub addTrack : ℕ → TrackHeader → T → T
   pub bars : H → T → W
   pub enterBar : ℕ → W → W
   pub addBeat : ℕ → ℕ → ℕ → BeatIs → W → W

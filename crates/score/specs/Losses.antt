@@ -6,7 +6,7 @@ use mathlib.Core.Bool.{Bool, true, false, not, _&&_}
 use Rattle.model.specs.declared.Loss.{Loss}
 use Rattle.model.specs.declared.Loss.the-variants as L
 use Rattle.header.specs.declared.Header.{Header}
-use Rattle.track.specs.declared.Track.{Track}
+use Rattle.track.specs.declared.TrackHeader.{TrackHeader}
 use Rattle.format.specs.Prog.{has}
 use Rattle.note.specs.declared.LeftHand.{LeftHand}
 use Rattle.note.specs.declared.LeftHand.the-variants as H
@@ -30,7 +30,7 @@ reported (suc n) l = l ∷ reported n l
 unfoldable pub headerLosses : Header → List Loss
 headerLosses h = reportIf (h .«repeat_lost») L.RepeatCount ++ reportIf (h .«swing_lost») L.TripletFeel
 
-unfoldable pub trackLosses : Track → List Loss
+unfoldable pub trackLosses : TrackHeader → List Loss
 trackLosses t = reportIf (t .percussion) L.DrumKit
 
 -- ---- of reading a beat

@@ -33,13 +33,11 @@ use Rattle.model.specs.declared.Track.{Track}
 use Rattle.model.specs.Answers.{lossNumber}
 use Rattle.model.specs.Kinds.{dynamicOf, ottavaWord}
 use Rattle.curve.specs.Bend.{curveHeight}
-use Rattle.curve.specs.declared.bend.Height.the-variants as C
-use Rattle.curve.specs.declared.bend.Height as Curve
 use Rattle.curve.specs.declared.level.Level.{Level}
 use Rattle.curve.specs.declared.level.Level.the-variants.{Absent, Given}
 use Rattle.curve.specs.Level.{forte, chordOf, levelAfter}
 use Rattle.header.specs.declared.Header.{Header}
-use Rattle.track.specs.declared.Track as STrack
+use Rattle.track.specs.declared.TrackHeader.{TrackHeader}
 use Rattle.format.specs.Prog.{has}
 use Rattle.note.specs.Points.{BendPoint}
 use Rattle.note.specs.Note.{NoteIs}
@@ -147,10 +145,6 @@ abbrev pub dynamicAt : Level → Dynamic
 dynamicAt Absent = NoDynamic
 dynamicAt (Given n) = dynamicOf n
 
-abbrev pub heightAt : Curve.Height → Height
-heightAt C.Absent = NoHeight
-heightAt (C.Given c) = Peak c
-
 unfoldable pub rowEntry : RowIs → OttavaMarks → Kept → Row
 rowEntry r marks kept =
     record {
@@ -163,7 +157,7 @@ rowEntry r marks kept =
         text = textLeft (r .text);
         technique = r .technique;
         curve = spanOf (kept .points) (length (r .curve));
-        height = heightAt (curveHeight (r .curve));
+        height = curveHeight (r .curve);
       };
       expression = record { dynamic = dynamicAt (r .dynamic); articulations = r .articulations; arpeggio = r .arpeggio; head = r .head };
       ottava = marks;
@@ -212,18 +206,18 @@ lastAfter Beat own last = own
 abbrev pub noVoice : Voice
 noVoice = record { frets = noMemory; hammer = NoHammer; last = record { first = 0; count = 0 }; run = NoRun }
 
-abbrev pub boardOf : STrack.Track → Fretboard
+abbrev pub boardOf : TrackHeader → Fretboard
 boardOf t = record { strings = t .strings; capo = t .capo; percussion = t .percussion; tablature = t .tablature }
 
 -- the running dynamic starts at 6
-abbrev pub partOf : STrack.Track → Part
+abbrev pub partOf : TrackHeader → Part
 partOf t = record { board = boardOf t; running = forte; first = noVoice; second = noVoice }
 
 -- the entry of a track
-abbrev pub tuning : STrack.Track → ℕ → ℕ
+abbrev pub tuning : TrackHeader → ℕ → ℕ
 tuning t i = getD (t .strings .tunings) i 0
 
-unfoldable pub trackEntry : STrack.Track → Track
+unfoldable pub trackEntry : TrackHeader → Track
 trackEntry t =
     record {
       name = t .name;
@@ -319,7 +313,7 @@ module _ {T : Kind → Type 0} (the : Operations T) where
       }
 
   -- ---- a track
-  unfoldable pub addTrack : ℕ → STrack.Track → Staves T → Staves T
+  unfoldable pub addTrack : ℕ → TrackHeader → Staves T → Staves T
   addTrack number t w =
       record {
         tracks = the .add tracks number (trackEntry t) (w .tracks);

@@ -1,7 +1,7 @@
 -- What reading a file into lent tables answers, and what it leaves in them. Assumes nothing.
 use Prim.Native.Nat.{ℕ, _/_}
 use mathlib.Core.Bool.{Bool, _&&_}
-use mathlib.Core.List.{List, _∷_, []}
+use mathlib.Core.List.{List}
 use lib.Dec.{leb}
 use lib.ListN.{getD, length}
 use Rattle.bin.specs.Signed.{signed}
@@ -9,10 +9,6 @@ use Rattle.format.specs.Text.{pick}
 use Rattle.format.specs.Verdict.{Verdict, whole, truncated, tooLong, badVersion, badCount, empty, verdict}
 use Rattle.tables.specs.Table.{over, words}
 use Rattle.model.specs.declared.Answer.{Answer}
-use Rattle.model.specs.declared.LyricLine.{LyricLine}
-use Rattle.model.specs.declared.LyricTrack.{LyricTrack}
-use Rattle.model.specs.declared.LyricTrack.the-variants.{NoLyricTrack, Under}
-use Rattle.model.specs.declared.Lyrics.{Lyrics}
 use Rattle.model.specs.declared.Outcome.the-variants as O
 use Rattle.model.specs.declared.Sizes.{Sizes}
 use Rattle.model.specs.declared.Song.{Song}
@@ -20,10 +16,6 @@ use Rattle.model.specs.declared.Tempo.{Tempo}
 use Rattle.model.specs.declared.Text.{Text}
 use Rattle.model.specs.Answers.{readAnswer, refusal, noRoomAnswer, lossesOf}
 use Rattle.entries.specs.Words.{barStride, barWords, trackStride, trackWords, rowStride, rowWords, memberStride, memberWords, pointStride, pointWords, textStride, textWords}
-use Rattle.song.specs.declared.info.LyricLine as Line
-use Rattle.song.specs.declared.info.LyricTrack as Sung
-use Rattle.song.specs.declared.info.LyricTrack.the-variants.{NoLyrics, Nth}
-use Rattle.song.specs.declared.info.Lyrics as Lines
 use Rattle.score.specs.File as F
 use Rattle.score.specs.File.{Whole}
 use Rattle.score.specs.Bars.{noBar}
@@ -47,21 +39,6 @@ pub record Result : Type 0 where
 abbrev pub Score : Type 0
 Score = Whole (Staves Lists) (Walk Lists)
 
--- ---- the song
-abbrev pub lyricTrack : Sung.LyricTrack → LyricTrack
-lyricTrack NoLyrics = NoLyricTrack
-lyricTrack (Nth n) = Under n
-
-abbrev pub lyricLine : Line.LyricLine → LyricLine
-lyricLine l = record { start = l .start; text = l .text }
-
-abbrev pub lyrics : Lines.Lyrics → Lyrics
-lyrics l =
-    record {
-      track = lyricTrack (l .track);
-      lines = lyricLine (l .first) ∷ lyricLine (l .second) ∷ lyricLine (l .third) ∷ lyricLine (l .fourth) ∷ lyricLine (l .fifth) ∷ [];
-    }
-
 -- the song's tempo is that of bar 0 if it has one, else the file's
 unfoldable pub songOf : F.Opening → Tempo → ℕ → Song
 songOf g first used =
@@ -73,7 +50,7 @@ songOf g first used =
       composer = g .info .composer;
       lyricist = g .info .lyricist;
       copyright = g .info .copyright;
-      lyrics = lyrics (g .lyrics);
+      lyrics = g .lyrics;
       tempo = firstTempo first (g .tempo);
     }
 

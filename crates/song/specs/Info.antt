@@ -1,6 +1,7 @@
 -- The song's texts, its notices and its lyrics. Assumes nothing.
 use Prim.Native.Nat.{ℕ}
 use mathlib.Core.Bool.{Bool, false, not}
+use mathlib.Core.List.{_∷_, []}
 use lib.Dec.{leb, eqb}
 use Rattle.format.specs.declared.Range.{Range}
 use Rattle.format.specs.declared.Counted.the-variants as C
@@ -8,16 +9,13 @@ use Rattle.format.specs.Text.{TextRead, pick}
 use Rattle.format.specs.Prog.{Prog, ret, bind, whenLe, turns}
 use Rattle.format.specs.Fields.{u8, u32, NEGATIVE, count, intByteStringUnused, intByteStringUnusedPast, intString}
 use Rattle.bin.specs.Signed.{lessOneWrapped}
+use Rattle.model.specs.declared.LyricLine.{LyricLine}
+use Rattle.model.specs.declared.LyricTrack.{LyricTrack}
+use Rattle.model.specs.declared.LyricTrack.the-variants.{NoLyricTrack, Under}
+use Rattle.model.specs.declared.Lyrics.{Lyrics}
+use Rattle.model.specs.Answers.{noRange, noLyrics}
 use Rattle.song.specs.declared.info.Names.{Names}
 use Rattle.song.specs.declared.info.Info.{Info}
-use Rattle.song.specs.declared.info.LyricTrack.{LyricTrack}
-use Rattle.song.specs.declared.info.LyricTrack.the-variants.{NoLyrics, Nth}
-use Rattle.song.specs.declared.info.LyricLine.{LyricLine}
-use Rattle.song.specs.declared.info.Lyrics.{Lyrics}
-
--- the range of an empty text
-abbrev pub noRange : Range
-noRange = record { start = 0; end = 0 }
 
 -- title, subtitle, artist; passed over: "contents of album"
 unfoldable pub names : Prog Names
@@ -78,7 +76,7 @@ tripletFeel v = whenLe 500 v (ret false) (bind u8 (λ b. ret (not (eqb b 0))))
 -- ---- lyrics: a track and five lines from v400 on, none before
 -- the number less one, with wrapping, and none where that is negative; not bounded by the number of tracks (RULES.md 25)
 unfoldable pub lyricTrack : ℕ → LyricTrack
-lyricTrack v = pick (leb NEGATIVE (lessOneWrapped v)) NoLyrics (Nth (lessOneWrapped v))
+lyricTrack v = pick (leb NEGATIVE (lessOneWrapped v)) NoLyricTrack (Under (lessOneWrapped v))
 
 -- a number less one, with wrapping, and not below 0: a line's start, and a track's port and channel
 unfoldable pub fromZero : ℕ → ℕ
@@ -88,17 +86,10 @@ fromZero v = pick (leb NEGATIVE (lessOneWrapped v)) 0 (lessOneWrapped v)
 unfoldable pub lyricLine : Prog LyricLine
 lyricLine = bind u32 (λ v. bind intString (λ t. ret (record { start = fromZero v; text = t .range })))
 
-unfoldable pub noLine : LyricLine
-noLine = record { start = 0; text = noRange }
-
--- before v400, and beside a stop (RULES.md 6)
-unfoldable pub noLyrics : Lyrics
-noLyrics = record { track = NoLyrics; first = noLine; second = noLine; third = noLine; fourth = noLine; fifth = noLine }
-
 unfoldable pub fiveLines : LyricTrack → Prog Lyrics
 fiveLines track =
     bind lyricLine (λ a. bind lyricLine (λ b. bind lyricLine (λ c. bind lyricLine (λ d. bind lyricLine (λ e.
-    ret (record { track = track; first = a; second = b; third = c; fourth = d; fifth = e }))))))
+    ret (record { track = track; lines = a ∷ b ∷ c ∷ d ∷ e ∷ [] }))))))
 
 unfoldable pub lyrics : ℕ → Prog Lyrics
 lyrics v = whenLe 400 v (bind u32 (λ t. fiveLines (lyricTrack t))) (ret noLyrics)

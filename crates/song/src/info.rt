@@ -3,6 +3,7 @@ ghost use mathlib.Core.Path.{_≡_};
 ghost use mathlib.Core.Bool.{false};
 ghost use Rattle.format.specs.Text.{textIn};
 ghost use Rattle.format.specs.Place.{Gives, Reaches};
+ghost use Rattle.model.specs.Answers.{noLyrics};
 ghost use Rattle.song.specs.Info as info;
 use crate::from_zero;
 use bin::NEGATIVE;
@@ -13,6 +14,10 @@ use format::Counted;
 use format::NO_RANGE;
 use format::Place;
 use format::Range;
+use model::LyricLine;
+use model::LyricTrack;
+use model::Lyrics;
+use model::answers::no_lyrics;
 
 pub struct Names {
     pub title: Range,
@@ -45,28 +50,9 @@ pub struct FeelRead {
     pub next: Place,
 }
 
-pub enum LyricTrack {
-    NoLyrics,
-    Nth(u32),
-}
-
-pub struct LyricLine {
-    pub start: u32,
-    pub text: Range,
-}
-
 struct LineRead {
     line: LyricLine,
     next: Place,
-}
-
-pub struct Lyrics {
-    pub track: LyricTrack,
-    pub first: LyricLine,
-    pub second: LyricLine,
-    pub third: LyricLine,
-    pub fourth: LyricLine,
-    pub fifth: LyricLine,
 }
 
 pub struct LyricsRead {
@@ -218,9 +204,9 @@ fn lyric_track(v: u32) -> LyricTrack
 {
     let nth = bin::signed::less_one(v);
     if NEGATIVE <= nth {
-        return LyricTrack::NoLyrics;
+        return LyricTrack::NoLyricTrack;
     }
-    LyricTrack::Nth(nth)
+    LyricTrack::Under(nth)
 }
 
 fn line_at(s: &[u8], from: Place) -> LineRead
@@ -238,25 +224,8 @@ fn line_at(s: &[u8], from: Place) -> LineRead
     }
 }
 
-fn no_lyrics() -> Lyrics
-    ensures { λ r. ⌜ r ≡ info.noLyrics ⌝ }
-{
-    let none = LyricLine {
-        start: 0,
-        text: NO_RANGE,
-    };
-    Lyrics {
-        track: LyricTrack::NoLyrics,
-        first: none,
-        second: none,
-        third: none,
-        fourth: none,
-        fifth: none,
-    }
-}
-
 fn five_lines_at(s: &[u8], from: Place, track: LyricTrack) -> LyricsRead
-    ensures { λ r. ⌜ Gives (info.fiveLines track) info.noLyrics (now (s .entry)) from (r .lyrics) (r .next) ⌝ }
+    ensures { λ r. ⌜ Gives (info.fiveLines track) noLyrics (now (s .entry)) from (r .lyrics) (r .next) ⌝ }
 {
     let a = line_at(s, from);
     let at = a.next;
@@ -274,27 +243,21 @@ fn five_lines_at(s: &[u8], from: Place, track: LyricTrack) -> LyricsRead
             next,
         };
     };
-    let first = a.line;
-    let second = b.line;
-    let third = c.line;
-    let fourth = d.line;
-    let fifth = e.line;
+    let a = a.line;
+    let b = b.line;
+    let c = c.line;
+    let d = d.line;
+    let e = e.line;
+    let lines = [a, b, c, d, e];
     LyricsRead {
-        lyrics: Lyrics {
-            track,
-            first,
-            second,
-            third,
-            fourth,
-            fifth,
-        },
+        lyrics: Lyrics { track, lines },
         next,
     }
 }
 
 // The lyric track and five lines from v400 on.
 pub fn lyrics_at(s: &[u8], from: Place, v: u32) -> LyricsRead
-    ensures { λ r. ⌜ Gives (info.lyrics v) info.noLyrics (now (s .entry)) from (r .lyrics) (r .next) ⌝ }
+    ensures { λ r. ⌜ Gives (info.lyrics v) noLyrics (now (s .entry)) from (r .lyrics) (r .next) ⌝ }
 {
     if v < 400 {
         return LyricsRead {

@@ -21,7 +21,7 @@ use Rattle.model.specs.declared.Tuplet.the-variants.{NoTuplet, Ratio}
 use Rattle.model.proofs.Fits.{ProgramFits, TupletFits}
 use Rattle.entries.proofs.Fits.{BarFits, TrackFits}
 use Rattle.header.specs.declared.Header.{Header}
-use Rattle.track.specs.declared.Track.{Track}
+use Rattle.track.specs.declared.TrackHeader.{TrackHeader}
 use Rattle.song.specs.Setup.{programOf, channel, noPort, nextChannel, port, noPorts, nextPort, channelTable}
 use Rattle.track.specs.Track as T
 use Rattle.beat.specs.Head.{tupletOf, headOf, head}
@@ -103,7 +103,7 @@ track-sound s v programs at f =
     yield-after _ _ (λ _ _ _. yield-after _ _ (λ _ _ _. yield-after _ _ (λ _ _ _.
     yield-bind _ sound-facts (λ _ _ _ h. yield-after _ _ (λ _ _ _. yield-ret (h, program-fits _ programs _ _ f))))))
 
-track-fits : (s : List ℕ) (at n : ℕ) (u : Track) → length s ≤ LIMIT → TrackFacts s at u n → u .channel < 256
+track-fits : (s : List ℕ) (at n : ℕ) (u : TrackHeader) → length s ≤ LIMIT → TrackFacts s at u n → u .channel < 256
     → ProgramFits (u .program) → TrackFits (trackEntry u)
 unfolding trackEntry
 track-fits s at n u small f c p =

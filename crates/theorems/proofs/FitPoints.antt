@@ -14,13 +14,12 @@ use Rattle.model.specs.declared.Cents.{Cents}
 use Rattle.model.specs.declared.Point.{Point}
 use Rattle.model.proofs.Fits.{HeightFits}
 use Rattle.entries.proofs.Fits.{PointFits}
-use Rattle.curve.specs.declared.bend.Height.{Height}
-use Rattle.curve.specs.declared.bend.Height.the-variants.{Absent, Given}
+use Rattle.model.specs.declared.Height.{Height}
+use Rattle.model.specs.declared.Height.the-variants.{NoHeight, Peak}
 use Rattle.curve.specs.Held.{held, wordHalf}
 use Rattle.curve.specs.Bend.{point, place, heldZ, heightOf, pointOf, insert, inserts, along, latter, withEnds, finish}
 use Rattle.curve.specs.Bend.{size, larger, curveHeight}
 use Rattle.note.specs.Points.{BendPoint}
-use Rattle.score.specs.Page.{heightAt}
 use Rattle.score.specs.Rows.{curveOf}
 use Rattle.refine.proofs.All.{All}
 
@@ -97,11 +96,11 @@ curve-fits ps = ends-fit (inserts [] (map readOf ps)) (inserts-fit [] (map readO
 
 -- ---- its height
 
-larger-fits : (h : Height) (c : Cents) → HeightFits (heightAt h) → CentsFit c → HeightFits (heightAt (larger h c))
+larger-fits : (h : Height) (c : Cents) → HeightFits h → CentsFit c → HeightFits (larger h c)
 unfolding larger
-larger-fits Absent c f g = g
-larger-fits (Given d) c f g = either (λ h. HeightFits (heightAt h)) (leb (size d) (size c)) (Given c) (Given d) g f
+larger-fits NoHeight c f g = g
+larger-fits (Peak d) c f g = either HeightFits (leb (size d) (size c)) (Peak c) (Peak d) g f
 
-pub height-fits : (ps : List Point) → All PointFits ps → HeightFits (heightAt (curveHeight ps))
+pub height-fits : (ps : List Point) → All PointFits ps → HeightFits (curveHeight ps)
 unfolding curveHeight
-height-fits ps f = along-fits (λ h. HeightFits (heightAt h)) larger larger-fits Absent ps tt f
+height-fits ps f = along-fits HeightFits larger larger-fits NoHeight ps tt f

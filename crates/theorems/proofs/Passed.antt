@@ -10,7 +10,7 @@ use lib.Dec.{leb}
 use lib.ListN.{getD, take, drop}
 use borrow.Author.Tests.{leb-false}
 use Rattle.format.specs.declared.Stop.the-variants as S
-use Rattle.format.specs.Text.{TextRead, pick, textOf}
+use Rattle.format.specs.Text.{pick, textOf}
 use Rattle.format.specs.Prog.{Prog, ret, refuse, byte, pass, text, Res, ok, run, bind, whenLe}
 use Rattle.format.specs.Fields.{u8, number, skip, textBytes, MAXSTRING, stringPast, fixedString}
 use Rattle.format.specs.Fields.{intByteStringUnusedPast, intByteStringPast}

@@ -4,7 +4,7 @@ use mathlib.Core.List.{List, [], _∷_, _++_}
 use Rattle.format.specs.Prog.{Prog}
 use Rattle.model.specs.declared.Time.{Time}
 use Rattle.header.specs.declared.Header.{Header}
-use Rattle.track.specs.declared.Track.{Track}
+use Rattle.track.specs.declared.TrackHeader.{TrackHeader}
 use Rattle.beat.specs.Beat.{BeatIs}
 use Rattle.score.specs.File.{Opening, Adding, Whole, file}
 
@@ -16,7 +16,7 @@ pub record HeadTold : Type 0 where
 
 pub record TrackTold : Type 0 where
   pub number : ℕ
-  pub track : Track
+  pub track : TrackHeader
 
 -- a beat of a voice of a track, in a bar
 pub record BeatTold : Type 0 where

@@ -14,11 +14,12 @@ use Rattle.format.specs.Text.{pick}
 use Rattle.format.specs.Prog.{Prog, ret, bind, whenLe, turns, has}
 use Rattle.format.specs.Fields.{u8, u32, skip, count, fixedString, intByteStringPast}
 use Rattle.curve.specs.Held.{held, wordHalf}
-use Rattle.song.specs.Info.{noRange, fromZero}
+use Rattle.model.specs.Answers.{noRange}
+use Rattle.song.specs.Info.{fromZero}
 use Rattle.track.specs.declared.Sound.{Sound}
 use Rattle.track.specs.declared.Staff.{Staff}
 use Rattle.track.specs.declared.Strings.{Strings}
-use Rattle.track.specs.declared.Track.{Track}
+use Rattle.track.specs.declared.TrackHeader.{TrackHeader}
 
 -- ---- strings: at most seven tunings, in file order, each held to 0..127 (RULES.md 14)
 unfoldable pub noTunings : List ℕ
@@ -91,7 +92,7 @@ channelProgram percussion programs port channel = pick percussion NoProgram (Mid
 
 -- ---- a whole track
 -- beside a stop
-unfoldable pub noTrack : Track
+unfoldable pub noTrack : TrackHeader
 noTrack =
     record {
       name = noRange;
@@ -105,7 +106,7 @@ noTrack =
     }
 
 -- what a track's fields make; percussion is flag 0x01
-unfoldable pub trackOf : List (List ℕ) → ℕ → Range → Strings → Sound → Staff → Track
+unfoldable pub trackOf : List (List ℕ) → ℕ → Range → Strings → Sound → Staff → TrackHeader
 trackOf programs flags name s w f =
     record {
       name = name;
@@ -119,7 +120,7 @@ trackOf programs flags name s w f =
     }
 
 -- flags, name, strings, sound and staff
-unfoldable pub track : ℕ → List (List ℕ) → Prog Track
+unfoldable pub track : ℕ → List (List ℕ) → Prog TrackHeader
 track v programs =
     bind u8 (λ flags.
     bind (fixedString 40) (λ name.

@@ -55,7 +55,7 @@ struct StaffRead {
     next: Place,
 }
 
-pub struct Track {
+pub struct TrackHeader {
     pub name: Range,
     pub strings: Strings,
     pub capo: u8,
@@ -67,7 +67,7 @@ pub struct Track {
 }
 
 pub struct TrackRead {
-    pub track: Track,
+    pub track: TrackHeader,
     pub next: Place,
 }
 
@@ -237,12 +237,12 @@ fn track_of(
     strings: Strings,
     sound: Sound,
     staff: Staff,
-) -> Track
+) -> TrackHeader
     requires { ⌜ (strings .count ≤ 7) × (sound .port ≤ 3) × (sound .channel ≤ 15) ⌝ }
     ensures { λ r. ⌜ r ≡ track.trackOf programs flags name strings sound staff ⌝ }
 {
     let percussion = has(flags, 0x01);
-    Track {
+    TrackHeader {
         name,
         strings,
         capo: sound.capo,
@@ -259,10 +259,10 @@ fn track_of(
     }
 }
 
-fn no_track() -> Track
+fn no_track() -> TrackHeader
     ensures { λ r. ⌜ r ≡ track.noTrack ⌝ }
 {
-    Track {
+    TrackHeader {
         name: NO_RANGE,
         strings: Strings {
             count: 0,

@@ -10,7 +10,7 @@ use lib.Seq.{sets, getD-drop, getD-take, take-all}
 use Rattle.tables.proofs.Laws.{sets-append}
 use Rattle.score.specs.Page.{noVoice, boardOf, partOf}
 use Rattle.curve.specs.Level.{forte}
-use Rattle.track.specs.declared.Track.{Track}
+use Rattle.track.specs.declared.TrackHeader.{TrackHeader}
 use Rattle.model.specs.Kinds.{flagOf}
 use Rattle.words.specs.Words.{voicePlace, fretOf, hammerOf, runOf, voiceWords, boardWords, partWords, boardFrom, voiceFrom}
 use Rattle.words.specs.Voices.{voiceIn}
@@ -99,7 +99,7 @@ pub no-words : voiceIn (replicate 15 0) ≡ noVoice
 unfolding voiceFrom fretOf hammerOf runOf flagOf
 no-words = refl
 
-pub part-shown : (track : Track) (t : List ℕ) (at : ℕ) → length (track .strings .tunings) ≡ 7
+pub part-shown : (track : TrackHeader) (t : List ℕ) (at : ℕ) → length (track .strings .tunings) ≡ 7
     → sets (sets (set (sets t at (boardWords (boardOf track))) (at + 11) forte) (at + 12) (voiceWords noVoice))
     (at + 27) (voiceWords noVoice)
     ≡ sets t at (partWords (partOf track))

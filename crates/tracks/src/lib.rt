@@ -3,7 +3,7 @@ use entries::tracks::store_track;
 use model::Loss;
 use model::Tunings;
 use parts::add_part;
-use track::Track;
+use track::TrackHeader;
 use words::report_if;
 ghost use mathlib.Core.Path.{_≡_};
 ghost use mathlib.Core.List.{[]};
@@ -15,7 +15,7 @@ ghost use Rattle.words.specs.Reports.{reports};
 
 pub mod parts; // what is remembered of each track
 
-pub fn track_entry(track: Track) -> model::Track
+pub fn track_entry(track: TrackHeader) -> model::Track
     ensures { λ r. ⌜ r ≡ trackEntry track ⌝ }
 {
     let name = track.name;
@@ -44,7 +44,7 @@ pub fn track_entry(track: Track) -> model::Track
     }
 }
 
-fn track_losses(losses: [u32; 17], track: Track) -> [u32; 17]
+fn track_losses(losses: [u32; 17], track: TrackHeader) -> [u32; 17]
     ensures { λ r. ⌜ r ≡ reports (trackLosses track) losses ⌝ }
 {
     report_if(losses, track.percussion, Loss::DrumKit)
@@ -53,7 +53,7 @@ fn track_losses(losses: [u32; 17], track: Track) -> [u32; 17]
 // Hands back the losses.
 pub fn add_track(
     number: u32,
-    track: Track,
+    track: TrackHeader,
     losses: [u32; 17],
     tracks: &mut [u32],
     parts: &mut [u32],

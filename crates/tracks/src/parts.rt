@@ -11,7 +11,7 @@ ghost use Rattle.words.specs.Voices.{voiceIn};
 use model::kinds;
 use score::Fretboard;
 use track::Strings;
-use track::Track;
+use track::TrackHeader;
 use words::voice;
 use words::voice::VoiceWords;
 
@@ -212,7 +212,7 @@ pub fn put_voice(parts: &mut [u32], track: usize, voice: usize, w: &VoiceWords)
 }
 
 // A part as it is before its first beat.
-pub fn add_part(parts: &mut [u32], number: usize, track: Track)
+pub fn add_part(parts: &mut [u32], number: usize, track: TrackHeader)
     ensures { λ _. ⌜ now (parts .exit) ≡ sets (now (parts .entry)) (number * partStride) (partWords (partOf track)) ⌝ }
 {
     let strings = track.strings;

@@ -3,7 +3,8 @@ use Prim.Native.Nat.{ℕ}
 use mathlib.Core.Bool.{false}
 use mathlib.Core.List.{List, []}
 use Rattle.model.specs.declared.Tempo.the-variants.{NoTempo}
-use Rattle.song.specs.Info.{noInfo, noLyrics}
+use Rattle.model.specs.Answers.{noLyrics}
+use Rattle.song.specs.Info.{noInfo}
 use Rattle.header.specs.Header.{noCounts}
 use Rattle.score.specs.declared.Before.{Before}
 use Rattle.score.specs.File.{Opening}

@@ -14,7 +14,7 @@ use Rattle.song.specs.Version.{PREFIX, starts, isDigit, digitsLen, digitsFrom, 
 use Rattle.header.specs.Header.{commonTime, powerOfTwo, timeOf, endingOf, passesOf}
 use Rattle.curve.specs.Held.{held}
 use Rattle.curve.specs.Bend.{point, place, pointOf, finish, larger, curveHeight}
-use Rattle.curve.specs.declared.bend.Height.the-variants.{Given}
+use Rattle.model.specs.declared.Height.the-variants.{Peak}
 
 -- a version by its text after "FICHIER GUITAR PRO v"
 abbrev read : List ℕ → Prog ℕ
@@ -46,7 +46,7 @@ pub record Worked : Type 0 where
   -- offset 59 as 983
   pub offset-59 : (value : ℕ) → place (pointOf 59 value) ≡ 983
   -- heights -100 then 100 giving 100
-  pub heights-100 : curveHeight (finish (point 0 (down 100) ∷ point 1000 (up 100) ∷ [])) ≡ Given (up 100)
+  pub heights-100 : curveHeight (finish (point 0 (down 100) ∷ point 1000 (up 100) ∷ [])) ≡ Peak (up 100)
 
 pub worked : Worked
 unfolding starts isDigit digitsLen digitsFrom short unplussed versionNumber versionOf accepted whenLe timeOf powerOfTwo endingOf passesOf ones onesIn trailingZeros run textBytes textOf cut trim rangeOf blank cutLen leadLen keepLen keepNext held pointOf finish curveHeight larger

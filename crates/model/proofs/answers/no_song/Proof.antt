@@ -1,4 +1,4 @@
-use mathlib.Core.Path.{refl}
+use borrow.Author.Needs.{needs}
 use Rattle.model.specs.Answers.{noSong}
 use Rattle.model.proofs.answers.no_song.Statement.{statement}
 use Rattle.model.proofs.answers.no_song.Tie as tie
@@ -8,4 +8,5 @@ unfolding noSong
 no-song-spec =
     tie.close
     (tie.spec
-    (λ c. refl))
+    (λ c κs. search needs)
+    (λ c. rw (c .no-lyrics .ensures)))

@@ -19,12 +19,11 @@ add-curve-spec =
     (λ c κs. search needs)
     (λ c. search needs)
     (λ c κs. search needs)
-    (λ c κs. search needs)
     (λ c. search needs)
     (λ c.
-    let count = c .before .before in
+    let count = c .before in
     let entered = count .before .before .before in
     let curve = entered .before .before .curve-of .ensures in (
       rw curve at (entered .add-points .ensures),
-      rw (c .height-at .ensures, c .before .curve-height .ensures, count .point-count .ensures .is, curve),
+      rw (c .curve-height .ensures, count .point-count .ensures .is, curve),
     )))

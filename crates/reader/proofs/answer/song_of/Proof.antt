@@ -10,5 +10,4 @@ song-of-spec =
     tie.close
     (tie.spec
     (λ c κs. search needs)
-    (λ c κs. search needs)
-    (λ c. rw (c .tempo-of .ensures, c .before .lyrics-of .ensures)))
+    (λ c. rw (c .tempo-of .ensures)))
