@@ -24,7 +24,7 @@ use Rattle.score.specs.Sounding.{soundsOn}
 use Rattle.score.specs.Page.{bendRoom, bendRooms, emptyBytes, hasText}
 use Rattle.words.specs.Counted.{oneNote, oneGrace, graceOf, heard, keptWith, keptOf, countTally}
 use Rattle.words.specs.Words.{wordPlus, LARGEST}
-use Rattle.losses.proofs.Sums.{plus-none}
+use Rattle.into_losses.proofs.Sums.{plus-none}
 use Rattle.enter.specs.declared.Progress.{Progress}
 use Rattle.enter.specs.Steps.{tallyOf}
 use Rattle.enter.proofs.Plainly.{withKept}

@@ -28,8 +28,8 @@ use Rattle.score.specs.Page.{Rowing, keepRow, keepRows, keepBeat, runningAfter,
 use Rattle.draft.specs.Chord.{heardBy}
 use Rattle.words.specs.Words.{Words, words, wordPlus, LARGEST, firstWord, tempoWords}
 use Rattle.words.specs.Meant.{rowingOf, walkOf}
-use Rattle.losses.proofs.Sums.{plus-none}
-use Rattle.page.specs.Plain.{plainRow}
+use Rattle.into_losses.proofs.Sums.{plus-none}
+use Rattle.into_rows.specs.Plain.{plainRow}
 use Rattle.enter.specs.declared.Progress.{Progress}
 use Rattle.enter.specs.Steps.{Sounded, soundedOf, sounded, own, tallyOf, progressWith}
 use Rattle.enter.specs.Plain.{PlainBeat}

@@ -16,7 +16,7 @@ use Rattle.score.specs.Members.{inOrder}
 use Rattle.score.specs.Rows.{rowsOf, levels}
 use Rattle.score.specs.Losses.{readingLosses, buildingLosses}
 use Rattle.score.specs.Page.{bendRooms, hasText}
-use Rattle.page.specs.Plain.{plainRow}
+use Rattle.into_rows.specs.Plain.{plainRow}
 
 -- no accents, effects, bend and fingers
 pub record PlainNote (n : NoteIs) : Type 0 where

@@ -17,7 +17,7 @@ use note::notes::first_string;
 use note::notes::other_strings;
 use note::places::Notes;
 use score::Kept;
-use tracks::parts::string_count_at;
+use into_tracks::parts::string_count_at;
 use words::plus;
 
 // How many notes sound, and how many graces stand before them.
@@ -108,7 +108,7 @@ pub fn count_beat(
         kept,
         texts: progress.texts,
         text_room: crate::text_room(s, progress.text_room, b),
-        point_room: plus(progress.point_room, losses::rooms::bend_rooms(b, notes)),
+        point_room: plus(progress.point_room, into_losses::rooms::bend_rooms(b, notes)),
         flat: progress.flat,
     }
 }

@@ -92,7 +92,7 @@ fn one_header(
         };
     };
     let header = read.header;
-    let headed = bars::add_header(numbers, bar, time, header, before, losses, bars);
+    let headed = into_bars::add_header(numbers, bar, time, header, before, losses, bars);
     let time = header.time;
     let before = headed.before;
     let losses = headed.losses;
@@ -171,7 +171,7 @@ fn one_track(
         return Tracked { losses, next };
     };
     let track = read.track;
-    let losses = tracks::add_track(number, track, losses, tracks, parts);
+    let losses = into_tracks::add_track(number, track, losses, tracks, parts);
     Tracked { losses, next }
 }
 

@@ -14,10 +14,13 @@ use Rattle.model.specs.declared.Answer.{Answer}
 use Rattle.model.specs.declared.Sizes.{Sizes}
 use Rattle.model.specs.Answers.{refusal, noRoomAnswer}
 use Rattle.score.specs.declared.Tally.{Tally}
+use Rattle.theorems.specs.Promise.{Promise}
+use Rattle.theorems.proofs.Promised.{promised}
 use Rattle.score.specs.Reading.{Tables, refused, enough, songOf, reading}
-use Rattle.refine.proofs.Rooms.{neededBy}
+use Rattle.words.specs.Left.{neededBy}
 use Rattle.refine.proofs.Counting.{Enters, counted-stop, counted-end}
-use Rattle.refine.proofs.Returns.{stopAnswer, roomsBy, refused-is, no-room-is, never-stops, read-is}
+use Rattle.words.specs.Left.{stopAnswer}
+use Rattle.refine.proofs.Returns.{roomsBy, refused-is, no-room-is, never-stops, read-is}
 use Rattle.front.specs.declared.SongRead.{SongRead}
 use Rattle.reader.specs.Passed.{wholeOf}
 use Rattle.reader.specs.Result.{FirstPass, Fills}
@@ -28,8 +31,8 @@ at-same e f = cc
 
 module _ (d : List ℕ) (bytes : Bytes d) (t : Tables) {s : List ℕ} (is : s ≡ upTo LIMIT d) {song : SongRead} {tally : Tally} where
   pub ends-refused : {at : Place} {x : Stop} → FirstPass s song tally at → at ≡ Stopped x
-      → refused (refusal (stopAnswer (ltb LIMIT (length d)) x)) t ≡ reading d t
-  ends-refused {x = x} f e = sym (refused-is d bytes t (f .before) (f .own) x (counted-stop d bytes (f .before) x (rw (e, is) at (f .passes .reaches .reaches))))
+      → Promise d t (refused (refusal (stopAnswer (ltb LIMIT (length d)) x)) t)
+  ends-refused {x = x} f e = promised (sym (refused-is d bytes t (f .before) (f .own) x (counted-stop d bytes (f .before) x (rw (e, is) at (f .passes .reaches .reaches)))))
 
   module _ {at : Place} {n : ℕ} (f : FirstPass s song tally at) (e : at ≡ At n) where
     -- a pass that enters would end there too, and need the same rooms
@@ -39,14 +42,14 @@ module _ (d : List ℕ) (bytes : Bytes d) (t : Tables) {s : List ℕ} (is : s �
     enough-again : {b : Bool} → enough (neededBy (song .counts) tally) t ≡ b → enough (roomsBy (again .score)) t ≡ b
     enough-again h = sym (ap (λ (k : Sizes). enough k t) (again .needs)) ∙ h
 
-    pub ends-short : enough (neededBy (song .counts) tally) t ≡ false → refused (noRoomAnswer (neededBy (song .counts) tally)) t ≡ reading d t
+    pub ends-short : enough (neededBy (song .counts) tally) t ≡ false → Promise d t (refused (noRoomAnswer (neededBy (song .counts) tally)) t)
     ends-short h =
-        rw (again .needs) (sym (no-room-is d bytes t (f .before) (f .own) (again .score) n (again .is) (enough-again h)))
+        rw (again .needs) (promised (sym (no-room-is d bytes t (f .before) (f .own) (again .score) n (again .is) (enough-again h))))
 
     pub ends-read : enough (neededBy (song .counts) tally) t ≡ true → (after : Tables) (answer : Answer) → Fills s t after answer
-        → record { answer = answer; tables = after } ≡ reading d t
+        → Promise d t (record { answer = answer; tables = after })
     unfolding songOf
-    ends-read h after answer w = go (w .next) refl
+    ends-read h after answer w = promised (go (w .next) refl)
       where
         go : (to : Place) → w .next ≡ to → record { answer = answer; tables = after } ≡ reading d t
         go (At m) g =

@@ -8,7 +8,7 @@ use Rattle.model.specs.Kinds.{tempoOf}
 use Rattle.entries.specs.Words.{tempoAt}
 use Rattle.score.specs.declared.Tally.{Tally}
 use Rattle.score.specs.Reading as Reading
-use Rattle.refine.proofs.Rooms.{neededBy, entriesBy}
+use Rattle.words.specs.Left.{neededBy, entriesBy}
 use Rattle.front.specs.declared.SongRead.{SongRead}
 use Rattle.front.specs.Front.{songOf}
 

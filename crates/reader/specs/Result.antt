@@ -11,7 +11,7 @@ use Rattle.score.specs.declared.Tally.{Tally}
 use Rattle.score.specs.Reading.{Tables, Result}
 use Rattle.words.specs.Words.{partStride}
 use Rattle.words.specs.Lent.{Lent}
-use Rattle.refine.proofs.Returns.{lentWith}
+use Rattle.words.specs.Left.{lentWith}
 use Rattle.front.specs.declared.SongRead.{SongRead}
 use Rattle.reader.specs.Passed.{Passes}
 use Rattle.reader.specs.Answered.{tables, answered}

@@ -19,8 +19,8 @@ ghost use Rattle.model.specs.declared.Outcome.the-variants.{Count};
 ghost use Rattle.model.specs.Answers.{lossesOf};
 ghost use Rattle.score.specs.Reading as reading;
 ghost use Rattle.score.specs.Score.{firstTempo};
-ghost use Rattle.refine.proofs.Rooms.{neededBy, entriesBy};
-ghost use Rattle.refine.proofs.Returns.{stopAnswer};
+ghost use Rattle.words.specs.Left.{neededBy, entriesBy};
+ghost use Rattle.words.specs.Left.{stopAnswer};
 ghost use Rattle.front.specs.Front.{songOf};
 ghost use Rattle.reader.specs.Answered.{tables, answered};
 

@@ -6,7 +6,7 @@ use model::Outcome;
 use pass::Passed;
 ghost use mathlib.Core.Path.{_≡_};
 ghost use Rattle.format.specs.Verdict.{upTo};
-ghost use Rattle.score.specs.Reading.{reading};
+ghost use Rattle.theorems.specs.Promise.{Promise};
 ghost use Rattle.reader.specs.Answered.{tables};
 ghost use Rattle.reader.specs.Result.{result, FirstPass, Fills};
 
@@ -91,7 +91,7 @@ pub fn read(
     points: &mut [u32],
     texts: &mut [u32],
 ) -> Answer
-    ensures { λ r. ⌜ result r (now (bars .exit)) (now (tracks .exit)) (now (rows .exit)) (now (members .exit)) (now (points .exit)) (now (texts .exit)) ≡ reading (now («data» .entry)) (tables (now (bars .entry)) (now (tracks .entry)) (now (rows .entry)) (now (members .entry)) (now (points .entry)) (now (texts .entry))) ⌝ }
+    ensures { λ r. ⌜ Promise (now («data» .entry)) (tables (now (bars .entry)) (now (tracks .entry)) (now (rows .entry)) (now (members .entry)) (now (points .entry)) (now (texts .entry))) (result r (now (bars .exit)) (now (tracks .exit)) (now (rows .exit)) (now (members .exit)) (now (points .exit)) (now (texts .exit))) ⌝ }
 {
     let s = up_to(data, LIMIT);
     let first = first_pass(s);

@@ -69,7 +69,7 @@ pub fn pass(
     let at = song.next;
     let counts = song.counts;
     let numbers = song.directions;
-    let lost = losses::song_losses(song.swing, numbers);
+    let lost = into_losses::song_losses(song.swing, numbers);
     let heads = front::headers(
         s,
         at,

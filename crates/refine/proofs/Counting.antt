@@ -40,7 +40,8 @@ use Rattle.words.specs.Words.{hammerWords, runWords, voiceWords}
 use Rattle.words.specs.Counted.{oneNote, oneGrace, graceOf, heard, keptWith, keptOf, stringsOn, countTally, countBeat, passing}
 use Rattle.refine.proofs.Heard.{length-remember}
 use Rattle.refine.proofs.Passes.{onePass}
-use Rattle.refine.proofs.Rooms.{WordScore, neededBy}
+use Rattle.words.specs.Left.{neededBy}
+use Rattle.refine.proofs.Rooms.{WordScore}
 
 -- ---- how many notes of a beat sound, and how many graces: a sum over them, in whatever order
 

@@ -22,7 +22,7 @@ use Rattle.score.specs.declared.Voice.{Voice}
 use Rattle.score.specs.Sounding.{nothing}
 use Rattle.score.specs.Score.{voiceOf, withVoice, withRunning}
 use Rattle.words.specs.Words.{runningPlace, voicePlace, fretWord, fretOf, hammerWords, hammerOf, runWords, runOf, voiceWords, boardWords, partWords, boardFrom, voiceFrom}
-use Rattle.words.specs.Voices.{fret-back, hammer-back, run-back}
+use Rattle.words.proofs.Back.{fret-back, hammer-back, run-back}
 use Rattle.refine.proofs.All.{all-getD}
 use Rattle.refine.proofs.Runs.{sets-after, sets-before, sets-all}
 use Rattle.refine.proofs.Parts.{Byte, LastFits, FretFits, HammerFits, VoiceFits, BoardFits, PartFits, voice-length, board-length}

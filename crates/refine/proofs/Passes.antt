@@ -30,7 +30,8 @@ use Rattle.refine.proofs.All.{all-get}
 use Rattle.refine.proofs.Alike.{Room}
 use Rattle.refine.proofs.Fit.{shows, words-alike}
 use Rattle.refine.proofs.Ops.{tempo-loads}
-use Rattle.refine.proofs.Rooms.{WordScore, tablesOf, neededBy, entriesBy}
+use Rattle.words.specs.Left.{neededBy, entriesBy}
+use Rattle.refine.proofs.Rooms.{WordScore, tablesOf}
 use Rattle.refine.proofs.Rooms.{needed-shown, entries-shown, enough-room}
 
 -- what may be read of a file d, read on the words of t

@@ -11,7 +11,6 @@ use lib.Dec.{leb, ltb}
 use lib.ListN.{length, getD}
 use mir.Syntax.{w8}
 use mir.Val.{Fits}
-use Rattle.bin.specs.Signed.{signed}
 use Rattle.format.specs.declared.Stop.{Stop}
 use Rattle.format.specs.declared.Stop.the-variants as S
 use Rattle.format.specs.Verdict.{LIMIT, whole, truncated, tooLong, stopVerdict}
@@ -19,8 +18,6 @@ use Rattle.format.specs.Prog.{ok, stopped}
 use Rattle.format.specs.Text.{pick}
 use Rattle.format.specs.Yields.{Bytes}
 use Rattle.format.proofs.Run.{clash}
-use Rattle.model.specs.declared.Outcome.{Outcome}
-use Rattle.model.specs.declared.Outcome.the-variants as O
 use Rattle.model.specs.declared.Sizes.{Sizes}
 use Rattle.model.specs.Answers.{readAnswer, refusal, noRoomAnswer, lossesOf}
 use Rattle.model.specs.Kinds.{tempoOf}
@@ -30,32 +27,12 @@ use Rattle.words.specs.Lent.{Lent}
 use Rattle.words.specs.Words.{partStride}
 use Rattle.refine.proofs.Passes.{onePass, endOf, tablesAfter, Entered, Passed}
 use Rattle.refine.proofs.Passes.{stopped-pass, whole-pass, same-score}
-use Rattle.refine.proofs.Rooms.{WordScore, neededBy, entriesBy}
+use Rattle.words.specs.Left.{neededBy, entriesBy, stopAnswer, lentWith}
+use Rattle.refine.proofs.Rooms.{WordScore}
 
 -- a slice of u8 is a file of bytes: what is known of each element, for all
 pub known-bytes : (d : List ℕ) → ((i : ℕ) → Fits w8 (getD d i 0)) → Bytes d
 known-bytes d h = λ i. h i .fits
-
--- why reading stopped, for the answer: where the bytes of a longer file end, it is the limit that was met
-abbrev pub stopAnswer : (longer : Bool) → Stop → Outcome
-stopAnswer longer S.Ends = pick longer O.TooLong O.Truncated
-stopAnswer longer S.Text = O.Truncated
-stopAnswer longer S.Version = O.Version
-stopAnswer longer (S.Count which value) = O.Count which (signed 2147483648 value)
-stopAnswer longer S.Empty = O.Empty
-
--- the caller's tables, and parts of the reader's own
-abbrev pub lentWith : Tables → List ℕ → Lent
-lentWith t own =
-    record {
-      bars = t .bars;
-      tracks = t .tracks;
-      rows = t .rows;
-      members = t .members;
-      points = t .points;
-      texts = t .texts;
-      parts = own;
-    }
 
 -- the rooms that a pass says to be needed
 abbrev pub roomsBy : WordScore → Sizes

@@ -9,15 +9,13 @@ use native.Mathlib.Nat.{le-div-iff-mul-le}
 use borrow.Author.Tests.{leb-true}
 use lib.Dec.{leb}
 use lib.ListN.{length}
-use Rattle.model.specs.declared.Sizes.{Sizes}
 use Rattle.entries.specs.Words.{barStride, rowStride, memberStride, pointStride, textStride}
-use Rattle.header.specs.declared.Counts.{Counts}
 use Rattle.score.specs.declared.Kept.{Kept}
-use Rattle.score.specs.declared.Tally.{Tally}
 use Rattle.score.specs.File.{Whole}
 use Rattle.score.proofs.Follow.{Agreed}
 use Rattle.score.specs.Page.{Staves, Walk}
 use Rattle.score.specs.Reading.{Tables, Score, needed, entries, enough}
+use Rattle.words.specs.Left.{sizes, neededBy, entriesBy}
 use Rattle.words.specs.Lent.{Lent}
 use Rattle.words.specs.Words.{Words}
 use Rattle.refine.proofs.Alike.{Room}
@@ -38,17 +36,6 @@ tablesOf t =
       points = t .points;
       texts = t .texts;
     }
-
--- ---- the six numbers of `needed` and of `entries`, as they are counted on the way
-
-abbrev sizes : (bars tracks rows members points texts : ℕ) → Sizes
-sizes a b c d e f = record { bars = a; tracks = b; rows = c; members = d; points = e; texts = f }
-
-abbrev pub neededBy : Counts → Tally → Sizes
-neededBy c w = sizes (c .bars) (c .tracks) (w .kept .rows) (w .kept .members) (w .«point_room») (w .«text_room»)
-
-abbrev pub entriesBy : Counts → Tally → Sizes
-entriesBy c w = sizes (c .bars) (c .tracks) (w .kept .rows) (w .kept .members) (w .kept .points) (w .texts)
 
 same-sizes : {a b c d e f g h i j k l : ℕ} → a ≡ g → b ≡ h → c ≡ i → d ≡ j → e ≡ k → f ≡ l
     → sizes a b c d e f ≡ sizes g h i j k l

@@ -11,8 +11,6 @@ use Rattle.model.specs.declared.Dynamic.{Dynamic}
 use Rattle.model.specs.declared.Dynamic.the-variants.{NoDynamic}
 use Rattle.model.specs.declared.Finger.{Finger}
 use Rattle.model.specs.declared.Finger.the-variants.{NoFinger}
-use Rattle.model.specs.declared.Height.{Height}
-use Rattle.model.specs.declared.Height.the-variants.{NoHeight, Peak}
 use Rattle.model.specs.declared.Key.{Key}
 use Rattle.model.specs.declared.Loss.{Loss}
 use Rattle.model.specs.declared.Loss.the-variants.{TripletFeel, UnsupportedDirection}

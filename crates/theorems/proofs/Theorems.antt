@@ -13,7 +13,7 @@ use Rattle.model.specs.declared.Outcome.the-variants as O
 use Rattle.model.specs.Answers.{refusal, noRoomAnswer}
 use Rattle.score.specs.Score.{scored}
 use Rattle.score.specs.Reading.{Tables, Result, Score, songOf, needed, enough, filled, fileAnswer, refused}
-use Rattle.worked.specs.Worked.{Worked, worked}
+use Rattle.theorems.proofs.Worked.{Worked, worked}
 use Rattle.theorems.specs.Promise.{Promise, number, used, Beginning, Seven}
 use Rattle.theorems.proofs.Filled.{Untouched, HandedOut, handed-out}
 use Rattle.theorems.proofs.FitFile.{score-fits}

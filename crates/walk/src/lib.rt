@@ -6,7 +6,7 @@ use draft::chord::Chord;
 use enter::Progress;
 use format::Counted;
 use format::Place;
-use losses::Losses;
+use into_losses::Losses;
 use note::places::Notes;
 use score::Tally;
 ghost use Rattle.format.specs.Place.{Reaches};
@@ -453,7 +453,7 @@ fn one_bar(
 ) -> Step
     ensures { λ r. ⌜ Reaches (file.bar (entering counting (now (s .entry))) v tracks bar (walkOf (now (bars .entry)) (now (rows .entry)) (now (members .entry)) (now (points .entry)) (now (texts .entry)) (now (parts .entry)) (tallyOf progress (now (lost .entry))))) (now (s .entry)) from (walkOf (now (bars .exit)) (now (rows .exit)) (now (members .exit)) (now (points .exit)) (now (texts .exit)) (now (parts .exit)) (tallyOf (r .progress) (now (lost .exit)))) (r .next) ⌝ }
 {
-    let key = bars::key_at(bars, bar as usize);
+    let key = into_bars::key_at(bars, bar as usize);
     let progress = enter::enter_bar(progress, key);
     bar_tracks(
         s,

@@ -1,3 +1,4 @@
+pub mod Back
 pub mod Reports
 pub mod Voices
 pub mod Places

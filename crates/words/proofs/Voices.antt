@@ -13,7 +13,8 @@ use Rattle.score.specs.declared.OttavaRun.{OttavaRun}
 use Rattle.score.specs.declared.OttavaRun.the-variants.{NoRun, Over}
 use Rattle.score.specs.Page.{withFrets}
 use Rattle.words.specs.Words.{fretWord, fretOf, hammerWords, hammerOf, runWords, voiceWords, voiceFrom}
-use Rattle.words.specs.Voices.{voiceIn, fretsIn, withHammer, withLast, withRun, run-back}
+use Rattle.words.specs.Voices.{voiceIn, fretsIn, withHammer, withLast, withRun}
+use Rattle.words.proofs.Back.{run-back}
 
 -- ---- what holds of every n words holds of a list with n
 

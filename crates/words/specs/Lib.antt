@@ -5,3 +5,4 @@ pub mod Lent
 pub mod Meant
 pub mod Heads
 pub mod Counted
+pub mod Left

@@ -1,21 +1,12 @@
 -- A voice as fifteen words that are lent: what the words say, and a voice with one thing changed. Assumes nothing.
-use Prim.Native.Nat.{ℕ, _<_}
-use mathlib.Core.Path.{_≡_, refl}
+use Prim.Native.Nat.{ℕ}
 use mathlib.Core.List.{List, map}
-use native.Mathlib.Nat.{mod-eq-of-lt}
-use native.Mathlib.Numerals.{add-one}
-use lib.ListN.{getD}
 use Rattle.model.specs.declared.Span.{Span}
-use Rattle.model.specs.Kinds.{flagOf}
-use Rattle.model.proofs.KindLaws.{ottava-back}
 use Rattle.score.specs.declared.Hammer.{Hammer}
-use Rattle.score.specs.declared.Hammer.the-variants.{Waits}
-use Rattle.score.specs.declared.LastFret.the-variants.{Fret}
 use Rattle.score.specs.declared.OttavaRun.{OttavaRun}
-use Rattle.score.specs.declared.OttavaRun.the-variants.{NoRun, Over}
 use Rattle.score.specs.declared.Remembered.{Remembered}
 use Rattle.score.specs.declared.Voice.{Voice}
-use Rattle.words.specs.Words.{fretWord, fretOf, recalled, hammerOf, runWords, runOf, voiceFrom}
+use Rattle.words.specs.Words.{recalled, voiceFrom}
 
 abbrev pub voiceIn : List ℕ → Voice
 voiceIn w = voiceFrom 0 w
@@ -33,18 +24,3 @@ withLast v last = record { frets = v .frets; hammer = v .hammer; last = last; ru
 
 abbrev pub withRun : Voice → OttavaRun → Voice
 withRun v run = record { frets = v .frets; hammer = v .hammer; last = v .last; run = run }
-
--- ---- the words of a fret, a hammer and an ottava say them
-
-pub fret-back : (f : ℕ) → f < 256 → fretOf (fretWord (Fret f)) ≡ Fret f
-unfolding fretOf
-fret-back f h = rw (add-one, mod-eq-of-lt h)
-
-pub hammer-back : (n key : ℕ) → key < 256 → hammerOf 1 n key ≡ Waits n key
-unfolding hammerOf flagOf
-hammer-back n key h = rw (mod-eq-of-lt h)
-
-pub run-back : (r : OttavaRun) → runOf (getD (runWords r) 0 0) (getD (runWords r) 1 0) (getD (runWords r) 2 0) ≡ r
-unfolding runOf flagOf
-run-back NoRun = refl
-run-back (Over n kind) = rw (ottava-back kind)

@@ -1,7 +1,7 @@
 -- Field by field. Assumes nothing.
 use borrow.Author.Needs.{needs}
 use mathlib.Core.List.{[]}
-use Rattle.losses.proofs.Sums.{plus-cut}
+use Rattle.into_losses.proofs.Sums.{plus-cut}
 use Rattle.enter.specs.Steps.{progressWith}
 use Rattle.enter.proofs.counted.Statement.{statement}
 use Rattle.enter.proofs.counted.Tie as tie

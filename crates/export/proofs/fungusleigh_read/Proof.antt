@@ -22,7 +22,7 @@ fungusleigh-read-spec =
     (λ c. search needs)
     (λ c.
     let said = c .before .before .before .before .before in
-    let read = said .before .before .before .before .before .before .before .before .before .before .before .before .before .read .ensures in (
+    let read = said .before .before .before .before .before .before .before .before .before .before .before .before .before .read .ensures .is in (
       ap (λ (x : Result). x .tables) read,
       rw (said .said-words .ensures, ap (λ (x : Result). x .answer) read) at (c .before .before .store-words .ensures),
     )))

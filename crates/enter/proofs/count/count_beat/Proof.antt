@@ -1,6 +1,6 @@
 -- Field by field. Assumes nothing.
 use mathlib.Core.List.{[]}
-use Rattle.losses.proofs.Sums.{plus-cut}
+use Rattle.into_losses.proofs.Sums.{plus-cut}
 use Rattle.words.specs.Counted.{countTally}
 use borrow.Author.Needs.{needs}
 use Rattle.enter.proofs.count.count_beat.Statement.{statement}

@@ -1,7 +1,7 @@
 -- The words of a row that waits, case by case. Assumes nothing.
 use mathlib.Core.Path.{_∙_, sym}
 use native.Mathlib.Omega.{arith}
-use Rattle.words.specs.Voices.{hammer-back}
+use Rattle.words.proofs.Back.{hammer-back}
 use Rattle.words.proofs.Voices.{no-hammer}
 use borrow.Author.Needs.{needs}
 use Rattle.words.proofs.voice.hammer_words.Statement.{statement}

@@ -1,0 +1,56 @@
+-- Word by word. Assumes nothing.
+use Rattle.format.specs.Prog.{has}
+use Rattle.beat.specs.Words.{beatIn}
+use Rattle.draft.specs.Chord.{chordIn}
+use Rattle.into_rows.proofs.Straight.{plain-stored}
+use borrow.Author.Needs.{needs}
+use Rattle.into_rows.proofs.plain.store_plain.Statement.{statement}
+use Rattle.into_rows.proofs.plain.store_plain.Tie as tie
+
+pub store-plain-spec : {M : Type 1} → statement M
+unfolding has
+store-plain-spec =
+    tie.close
+    (tie.spec
+    (λ c κs. search needs)
+    (λ c κs. search needs)
+    (λ c κs. search needs)
+    (λ c κs. search needs)
+    (λ c κs. search needs)
+    (λ c κs. search needs)
+    (λ c κs. search needs)
+    (λ c κs. search needs)
+    (λ c κs. search needs)
+    (λ c κs. search needs)
+    (λ c κs. search needs)
+    (λ c κs. search needs)
+    (λ c κs. search needs)
+    (λ c. search needs)
+    (λ c. search needs)
+    (λ c κs. search needs)
+    (λ c. search needs)
+    (λ c s v board flat sums.
+    let stored = c .before .before in
+    let finger = stored .before .before .before .before in
+    let head = finger .before in
+    let mark = head .before in
+    let normal = mark .before in
+    let actual = normal .before in
+    let dot = actual .before in
+    let flags = dot .before in
+    let duration = flags .before in
+    let rest = duration .before in
+    let own = rest .before .before in
+    let its-head = own .before in
+    let its-duration = its-head .before in
+    let tuplet = its-duration .before in
+    let a = tuplet .before .before .before .args in
+    plain-stored (a .place) board flat (a .mark) (beatIn s v (a .b .now) (a .notes .now)) (a .rows .now)
+    (chordIn s v (a .notes .now) (a .chord .now)) (a .kept) (stored .store-entry .ensures) sums (own .span-of .ensures) (rest .flag-word .ensures)
+    (rw (its-duration .duration .ensures) at (duration .duration-word .ensures))
+    (rw (flags .flags .ensures) at (dot .flag-word2 .ensures))
+    (rw (tuplet .tuplet .ensures) at (actual .actual-word .ensures))
+    (rw (tuplet .tuplet .ensures) at (normal .normal-word .ensures))
+    (mark .mark-word .ensures)
+    (rw (its-head .head-of .ensures s v) at (head .note-head-word .ensures))
+    (finger .finger-word .ensures)))

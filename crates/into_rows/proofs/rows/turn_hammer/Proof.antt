@@ -1,0 +1,25 @@
+-- By the hammer that waits. Assumes nothing.
+use mathlib.Core.Path.{refl, sym, _∙_}
+use Rattle.into_rows.proofs.Picked.{picked, passed}
+use borrow.Author.Needs.{needs}
+use Rattle.into_rows.proofs.rows.turn_hammer.Statement.{statement}
+use Rattle.into_rows.proofs.rows.turn_hammer.Tie as tie
+
+pub turn-hammer-spec : {M : Type 1} → statement M
+turn-hammer-spec =
+    tie.close
+    (tie.spec
+    (λ c. search needs)
+    (λ c. search needs)
+    (λ c ms ps sums. rw (c .enum-told .given .1))
+    (λ c κs. search needs)
+    (λ c. search needs)
+    (λ c κs. search needs)
+    (λ c. search needs)
+    (λ c ms ps sums.
+    let test = c .before .before .before .before in
+    rw (test .before .before .before .hammer .given .1)
+    (picked _ (sym (test .before .pulls .ensures ms ps sums) ∙ test .if1 .taken) (c .before .before .set-technique .ensures)))
+    (λ c ms ps sums.
+    rw (c .before .before .before .hammer .given .1)
+    (passed _ (sym (c .before .pulls .ensures ms ps sums) ∙ c .if1 .left) refl)))

@@ -1,8 +1,0 @@
--- By the largest word. Assumes nothing.
-use native.Mathlib.Omega.{arith}
-use Rattle.page.proofs.Straight.{none-more}
-use Rattle.page.proofs.plain.points_kept.Statement.{statement}
-use Rattle.page.proofs.plain.points_kept.Tie as tie
-
-pub points-kept-spec : {M : Type 1} → statement M
-points-kept-spec = tie.close (tie.spec (λ c. none-more (c .args .points) (omega (arith, c .fits .points))))
