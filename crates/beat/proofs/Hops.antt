@@ -1,4 +1,4 @@
--- A plain beat is hopped over. Assumes nothing.
+-- A plain beat is hopped over.
 use Prim.Native.Nat.{ℕ, _+_, _≤_, _<_}
 use native.Mathlib.Omega.{arith}
 use mathlib.Core.Path.{_≡_, refl, sym, _∙_}

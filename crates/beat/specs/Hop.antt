@@ -1,4 +1,4 @@
--- Past a beat of nothing but plain notes. A shortcut for a pass that only counts. Assumes nothing.
+-- Past a beat of nothing but plain notes. A shortcut for a pass that only counts.
 use Prim.Native.Nat.{ℕ, _+_}
 use mathlib.Core.Path.{_≡_}
 use mathlib.Core.Bool.{Bool, true, false}

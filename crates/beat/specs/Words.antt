@@ -1,5 +1,5 @@
 -- What the words of a beat mean. Its bytes and numbers stand in words of their own, as the file has them, in the file's order;
--- the definitions of the format say what is made of them. Assumes nothing.
+-- the definitions of the format say what is made of them.
 use Prim.Native.Nat.{ℕ, _+_, _%_}
 use mathlib.Core.Path.{_≡_}
 use mathlib.Core.List.{List}

@@ -1,4 +1,4 @@
--- The laws of two's complement, for every width: a number read as signed, its two's complement, and there and back. Assumes nothing.
+-- The laws of two's complement, for every width: a number read as signed, its two's complement, and there and back.
 use Prim.Native.Nat.{ℕ, _-_, _^_, _<_}
 use native.Mathlib.Omega.{arith}
 use mathlib.Core.Path.{_≡_, refl, ap}

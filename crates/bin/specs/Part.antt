@@ -1,4 +1,4 @@
--- Handing out a text. Assumes nothing.
+-- Handing out a text.
 use Prim.Native.Nat.{ℕ}
 use mathlib.Core.List.{List, []}
 use lib.ListN.{length}

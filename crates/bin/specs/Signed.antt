@@ -1,4 +1,4 @@
--- Signed numbers of every width, by the half of the unsigned range. Assumes nothing.
+-- Signed numbers of every width, by the half of the unsigned range.
 use Prim.Native.Nat.{ℕ, _+_, _-_, _%_}
 use lib.Dec.{ltb}
 use lib.IntN.{ℤ, pos, negsuc}

@@ -1,10 +1,10 @@
--- Numbers held to a range. Assumes nothing.
+-- Numbers held to a range.
 use Prim.Native.Nat.{ℕ, _≤_, min, max}
 use mathlib.Core.Path.{_≡_}
 use mathlib.Core.Bool.{cond}
 use lib.Dec.{ltb}
 
--- RULES.md 14, "held to range": x held to lo..hi. From `half` on, a two's complement x stands for a number below zero, and so below lo.
+-- docs/RULES.md 14, "held to range": x held to lo..hi. From `half` on, a two's complement x stands for a number below zero, and so below lo.
 unfoldable pub held : (half lo hi x : ℕ) → ℕ
 held half lo hi x = cond (ltb x half) (max lo (min hi x)) lo
 

@@ -1,17 +1,17 @@
--- Keys of notes and of graces. Assumes nothing.
+-- Keys of notes and of graces.
 use Prim.Native.Nat.{ℕ, _+_, _-_, min}
 use mathlib.Core.Bool.{Bool, cond}
 use lib.Dec.{eqb}
 
--- RULES.md 15: percussion keys 27→42, 28→60, 32→31, any other the fret itself
+-- docs/RULES.md 15: percussion keys 27→42, 28→60, 32→31, any other the fret itself
 unfoldable pub percussionKey : (fret : ℕ) → ℕ
 percussionKey fret = cond (eqb fret 27) 42 (cond (eqb fret 28) 60 (cond (eqb fret 32) 31 fret))
 
--- the key from fret, tuning and capo, held to 0..127 (RULES.md 14)
+-- the key from fret, tuning and capo, held to 0..127 (docs/RULES.md 14)
 abbrev pub stringKey : (fret tuning capo : ℕ) → ℕ
 stringKey fret tuning capo = min (fret + tuning + capo) 127
 
--- RULES.md 15: a percussion track's keys are without tuning and capo
+-- docs/RULES.md 15: a percussion track's keys are without tuning and capo
 abbrev pub noteKey : (percussion : Bool) (fret tuning capo : ℕ) → ℕ
 noteKey percussion fret tuning capo = cond percussion (percussionKey fret) (stringKey fret tuning capo)
 

@@ -1,4 +1,4 @@
--- The running dynamic. Assumes nothing.
+-- The running dynamic.
 use Prim.Native.Nat.{ℕ}
 use mathlib.Core.Bool.{Bool, true, _&&_, _||_, cond}
 use mathlib.Core.List.{List, [], _∷_}
@@ -14,7 +14,7 @@ use Rattle.curve.specs.declared.level.LevelAfter.{LevelAfter}
 abbrev pub forte : ℕ
 forte = 6
 
--- RULES.md 14: the dynamic byte is held to 1..8
+-- docs/RULES.md 14: the dynamic byte is held to 1..8
 abbrev pub heldLevel : Level → Level
 heldLevel Absent = Absent
 heldLevel (Given byte) = Given (held byteHalf 1 8 byte)

@@ -1,4 +1,4 @@
--- What the slide byte of a note says. Assumes nothing.
+-- What the slide byte of a note says.
 use Prim.Native.Nat.{ℕ, _-_, _/_, _%_}
 use mathlib.Core.Bool.{Bool, not, _&&_, _||_, cond}
 use lib.Dec.{eqb, ltb}
@@ -12,7 +12,7 @@ bit mask x = eqb (x / mask % 2) 1
 abbrev minus : ℕ → ℕ
 minus n = 256 - n
 
--- From v500: bits 0x04 falloff, 0x08 doit, 0x10 scoop, 0x20 plop; either of the two low bits a shift or legato slide; bits 0xC0 a loss (RULES.md 27).
+-- From v500: bits 0x04 falloff, 0x08 doit, 0x10 scoop, 0x20 plop; either of the two low bits a shift or legato slide; bits 0xC0 a loss (docs/RULES.md 27).
 abbrev pub bitsSlide : ℕ → SlideEffect
 bitsSlide bits = record {
   slide = not (eqb (bits % 0x04) 0);
@@ -23,7 +23,7 @@ bitsSlide bits = record {
   lost = not (eqb (bits / 0x40) 0);
 }
 
--- Before v500: kinds 1 and 2 a shift or legato slide, 3 falloff, 4 doit, -1 scoop, -2 plop; a kind outside -2..4 a loss (RULES.md 27).
+-- Before v500: kinds 1 and 2 a shift or legato slide, 3 falloff, 4 doit, -1 scoop, -2 plop; a kind outside -2..4 a loss (docs/RULES.md 27).
 abbrev pub kindSlide : ℕ → SlideEffect
 kindSlide kind = record {
   slide = eqb kind 1 || eqb kind 2;

@@ -1,4 +1,4 @@
--- Notes without effects give their row their accents, and notes without accents too nothing. Assumes nothing.
+-- Notes without effects give their row their accents, and notes without accents too nothing.
 use Prim.Native.Nat.{ℕ, _+_, _<_}
 use mathlib.Core.Path.{_≡_, refl, sym, _∙_}
 use mathlib.Core.Bool.{Bool, true, false, _||_, true≢false}

@@ -1,4 +1,4 @@
--- What each note of a chord adds to its row, and what all of them give. Assumes nothing.
+-- What each note of a chord adds to its row, and what all of them give.
 use Prim.Native.Nat.{ℕ, zero, suc}
 use native.Mathlib.Omega.{arith}
 use mathlib.Core.Path.{_≡_, refl, sym}

@@ -1,4 +1,4 @@
--- Walks over a chord: with what came before, the notes that are left give what all of them give. Assumes nothing.
+-- Walks over a chord: with what came before, the notes that are left give what all of them give.
 use Prim.Native.Nat.{ℕ, zero, suc, _+_, _<_}
 use native.Mathlib.Omega.{arith}
 use native.Mathlib.Numerals.{add-one}

@@ -1,4 +1,4 @@
--- What a draft means in a file s: a row, with the members that belong to it. Assumes nothing.
+-- What a draft means in a file s: a row, with the members that belong to it.
 use Prim.Native.Nat.{ℕ}
 use mathlib.Core.List.{List}
 use Rattle.model.specs.declared.Member.{Member}

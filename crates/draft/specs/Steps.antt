@@ -1,4 +1,4 @@
--- What each note of a chord adds to its row. Assumes nothing.
+-- What each note of a chord adds to its row.
 use Prim.Native.Nat.{ℕ}
 use mathlib.Core.Path.{_≡_}
 use mathlib.Core.List.{List, [], _∷_}

@@ -1,4 +1,4 @@
-// What the graces of a chord give their row (RULES.md 22).
+// What the graces of a chord give their row (docs/RULES.md 22).
 ghost use mathlib.Core.Path.{_≡_};
 ghost use mathlib.Core.List.{List};
 ghost use Prim.Native.Nat.{ℕ};

@@ -1,4 +1,4 @@
-// Articulations, in the order in which they are added (RULES.md 21).
+// Articulations, in the order in which they are added (docs/RULES.md 21).
 ghost use mathlib.Core.Path.{_≡_};
 ghost use Prim.Native.Nat.{ℕ};
 ghost use Rattle.model.specs.Marks.{addedIn};

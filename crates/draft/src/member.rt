@@ -15,7 +15,7 @@ use note::marks::Grace;
 use note::places::Notes;
 use score::Fretboard;
 
-// RULES.md 17: 1 is the lowest string.
+// docs/RULES.md 17: 1 is the lowest string.
 fn string_number(count: u8, string: usize) -> u8
     ensures { λ r. ⌜ r ≡ count - string ⌝ }
 {
@@ -59,7 +59,7 @@ pub fn finger_of(hand: LeftHand) -> Finger
     }
 }
 
-// RULES.md 16: the note turns the flat preference of the key round.
+// docs/RULES.md 16: the note turns the flat preference of the key round.
 fn flat_of(flat: bool, swap: bool) -> bool
     ensures { λ r. ⌜ r ≡ turned flat swap ⌝ }
 {

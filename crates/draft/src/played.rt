@@ -1,4 +1,4 @@
-// Technique and its text: the members are gone through in the order of their keys (RULES.md 19).
+// Technique and its text: the members are gone through in the order of their keys (docs/RULES.md 19).
 ghost use mathlib.Core.Path.{_≡_};
 ghost use mathlib.Core.List.{List};
 ghost use Prim.Native.Nat.{ℕ};

@@ -1,4 +1,4 @@
-// The rows of a kept beat: its own, and that of its graces (RULES.md 20 and 22).
+// The rows of a kept beat: its own, and that of its graces (docs/RULES.md 20 and 22).
 ghost use mathlib.Core.Path.{_≡_};
 ghost use mathlib.Core.Bool.{Bool};
 ghost use mathlib.Core.List.{List, [], map};

@@ -1,4 +1,4 @@
--- A beat of plain notes is counted: a row, and a member for each string that sounds. Assumes nothing.
+-- A beat of plain notes is counted: a row, and a member for each string that sounds.
 use Prim.Native.Nat.{ℕ, zero, suc, _+_, _≤_, _<_}
 use native.Mathlib.Omega.{arith}
 use mathlib.Core.Path.{_≡_, refl, sym, ap, _∙_}

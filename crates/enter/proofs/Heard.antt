@@ -1,4 +1,4 @@
--- The notes of a beat that sound: one string after another, or one note after another. Assumes nothing.
+-- The notes of a beat that sound: one string after another, or one note after another.
 use Prim.Native.Nat.{ℕ, zero, suc, _+_, _≤_, _<_}
 use mathlib.Core.Path.{_≡_, refl, _∙_}
 use mathlib.Core.List.{List, [], _∷_}

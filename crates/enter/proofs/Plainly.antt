@@ -1,4 +1,4 @@
--- A plain beat entered step by step is the beat entered. Assumes nothing.
+-- A plain beat entered step by step is the beat entered.
 use Prim.Native.Nat.{ℕ, _+_, _*_, _≤_}
 use mathlib.Core.Path.{_≡_, refl, sym, ap, _∙_}
 use mathlib.Core.List.{List, [], _∷_, _++_}

@@ -1,4 +1,4 @@
--- A beat entered step by step is the beat entered. Assumes nothing.
+-- A beat entered step by step is the beat entered.
 use Prim.Native.Nat.{ℕ}
 use mathlib.Core.Path.{_≡_, ap, _∙_}
 use mathlib.Core.List.{List}

@@ -1,4 +1,4 @@
--- A plain note, and what a beat of plain notes comes to: one row without marks, and nothing else. Assumes nothing.
+-- A plain note, and what a beat of plain notes comes to: one row without marks, and nothing else.
 use mathlib.Core.Path.{_≡_}
 use mathlib.Core.Bool.{Bool, true, false}
 use mathlib.Core.List.{[], _∷_}

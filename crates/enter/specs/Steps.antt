@@ -1,4 +1,4 @@
--- A beat entered, in two parts: what its notes give, and the rest. Assumes nothing.
+-- A beat entered, in two parts: what its notes give, and the rest.
 use Prim.Native.Nat.{ℕ}
 use mathlib.Core.List.{List}
 use mathlib.Core.Bool.{Bool}

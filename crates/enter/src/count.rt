@@ -11,13 +11,13 @@ ghost use Rattle.enter.specs.Steps.{tallyOf};
 use crate::Progress;
 use beat::places::Beat;
 use draft::sounding::that_sound;
+use into_tracks::parts::string_count_at;
 use note::field;
 use note::marks::GraceNote;
 use note::notes::first_string;
 use note::notes::other_strings;
 use note::places::Notes;
 use score::Kept;
-use into_tracks::parts::string_count_at;
 use words::plus;
 
 // How many notes sound, and how many graces stand before them.
@@ -108,7 +108,10 @@ pub fn count_beat(
         kept,
         texts: progress.texts,
         text_room: crate::text_room(s, progress.text_room, b),
-        point_room: plus(progress.point_room, into_losses::rooms::bend_rooms(b, notes)),
+        point_room: plus(
+            progress.point_room,
+            into_losses::rooms::bend_rooms(b, notes),
+        ),
         flat: progress.flat,
     }
 }

@@ -1,4 +1,4 @@
--- The two parts of a row, stored one after the other, are the row's words. Assumes nothing.
+-- The two parts of a row, stored one after the other, are the row's words.
 use Prim.Native.Nat.{ℕ, _+_, min}
 use mathlib.Core.Path.{_≡_}
 use mathlib.Core.List.{List}

@@ -1,4 +1,4 @@
--- An answer in words, for a caller in another language. Assumes nothing.
+-- An answer in words, for a caller in another language.
 use Prim.Native.Nat.{ℕ, _%_}
 use mathlib.Core.List.{List, [], _∷_, _++_}
 use Rattle.model.specs.declared.Answer.{Answer}

@@ -1,4 +1,4 @@
--- What was passed over and what follows the end reach no answer. Assumes nothing.
+-- What was passed over and what follows the end reach no answer.
 use Prim.Native.Nat.{ℕ, _+_, _≤_, _<_}
 use native.Mathlib.Omega.{arith}
 use native.Mathlib.Decide.{decLe, decLt}

@@ -1,4 +1,4 @@
--- Running a program reads exactly the bytes that fit it. Assumes nothing.
+-- Running a program reads exactly the bytes that fit it.
 use Prim.Native.Nat.{ℕ, _+_, _≤_, _<_}
 use native.Mathlib.Omega.{arith}
 use native.Mathlib.Numerals.{add-one}

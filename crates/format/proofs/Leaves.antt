@@ -1,4 +1,4 @@
--- What the code of a leaf shows: each kind of field at a position, where its bytes are there and where they end. Assumes nothing.
+-- What the code of a leaf shows: each kind of field at a position, where its bytes are there and where they end.
 use Prim.Native.Nat.{ℕ, zero, suc, _+_, _*_, _≤_, _<_}
 use native.Mathlib.Omega.{arith}
 use native.Mathlib.Numerals.{add-one}

@@ -1,4 +1,4 @@
--- How code comes from one place to another, as rules for a proof search. Assumes nothing.
+-- How code comes from one place to another, as rules for a proof search.
 use Prim.Native.Nat.{ℕ, suc, _+_, _-_, _≤_, _<_}
 use native.Mathlib.Omega.{arith}
 use mathlib.Core.Path.{_≡_, refl, sym, _∙_}

@@ -1,4 +1,4 @@
--- What holds of every run: a bind, each step by its test, where it ends, and the file cut before that. Assumes nothing.
+-- What holds of every run: a bind, each step by its test, where it ends, and the file cut before that.
 use Prim.Native.Nat.{ℕ, zero, suc, _+_, _≤_, _<_}
 use native.Mathlib.Omega.{arith}
 use native.Mathlib.Decide.{decLe, decLt}

@@ -1,4 +1,4 @@
--- The cut and the trim of a text a byte at a time, for the loops that find its ends, and the text between them. Assumes nothing.
+-- The cut and the trim of a text a byte at a time, for the loops that find its ends, and the text between them.
 use Prim.Native.Nat.{ℕ, zero, suc, _+_, _-_, _≤_, _<_}
 use native.Mathlib.Omega.{arith}
 use native.Mathlib.Nat.{add-zero}

@@ -1,4 +1,4 @@
--- A promise by `Gives` leaves one value and one place. Assumes nothing.
+-- A promise by `Gives` leaves one value and one place.
 use Prim.Native.Nat.{ℕ}
 use mathlib.Core.Path.{_≡_, refl, sym, _∙_}
 use mathlib.Core.List.{List}

@@ -1,4 +1,4 @@
--- What the laws of a run say of a whole file, from which demand 3 follows for every format. Assumes nothing.
+-- What the laws of a run say of a whole file, from which demand 3 follows for every format.
 use Prim.Native.Nat.{ℕ, _+_, _-_, _≤_, _<_}
 use native.Mathlib.Omega.{arith}
 use native.Mathlib.Decide.{decLe}

@@ -1,4 +1,4 @@
--- Rules for what programs of reads hand on: a return, a bind, a choice, turns, each kind of field. Assumes nothing.
+-- Rules for what programs of reads hand on: a return, a bind, a choice, turns, each kind of field.
 use Prim.Native.Nat.{ℕ, zero, suc, _+_, _≤_, _<_}
 use native.Mathlib.Omega.{arith}
 use mathlib.Core.Path.{_≡_, refl, sym, _∙_}

@@ -1,4 +1,4 @@
--- What an answer depends on. Assumes nothing.
+-- What an answer depends on.
 use Prim.Native.Nat.{ℕ, _+_, _≤_, _<_}
 use mathlib.Core.Path.{_≡_}
 use mathlib.Core.List.{List}

@@ -1,4 +1,4 @@
--- The kinds of field, from bytes up: numbers, counts and the four kinds of string. Assumes nothing.
+-- The kinds of field, from bytes up: numbers, counts and the four kinds of string.
 use Prim.Native.Nat.{ℕ, zero, suc, _+_, _*_, _-_}
 use lib.Dec.{leb}
 use Rattle.format.specs.declared.Counted.{Counted}

@@ -1,4 +1,4 @@
--- What a program's bytes are, said without running it. Assumes nothing.
+-- What a program's bytes are, said without running it.
 use Prim.Native.Nat.{ℕ, _+_}
 use mathlib.Core.Path.{_≡_}
 use mathlib.Core.List.{List, [], _∷_, _++_}

@@ -1,4 +1,4 @@
--- What code that reads has to show: from a place, what a program gives and where it goes on. Assumes nothing.
+-- What code that reads has to show: from a place, what a program gives and where it goes on.
 use Prim.Native.Nat.{ℕ}
 use mathlib.Core.Path.{_≡_}
 use mathlib.Core.List.{List}

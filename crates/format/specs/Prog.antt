@@ -1,4 +1,4 @@
--- A file format as a value: a program of reads, and what it is to run one. Assumes nothing.
+-- A file format as a value: a program of reads, and what it is to run one.
 use Prim.Native.Nat.{ℕ, zero, suc, _+_}
 use mathlib.Core.Bool.{Bool, not}
 use mathlib.Core.List.{List}
@@ -9,8 +9,8 @@ use Rattle.format.specs.declared.Stop.{Stop}
 use Rattle.format.specs.declared.Stop.the-variants.{Ends}
 use Rattle.format.specs.Text.{TextRead, pick, textOf}
 
--- what is read next: nothing, for here is the result; nothing, for the file is refused; a byte that is kept;
--- n bytes that are passed over; n bytes of text, of which is kept what is left after the cut and the trim
+-- A program of reads. It ends with its result (`ret`) or refuses the file (`refuse`); or it reads on: a byte that is kept (`byte`), n bytes
+-- that are passed over (`pass`), n bytes of text, of which the part after cut and trim is kept (`text`)
 pub data Prog (A : Type 0) : Type 0 where
   ret : A → Prog A
   refuse : Stop → Prog A

@@ -1,4 +1,4 @@
--- A kept text: cut at the first zero byte, then trimmed at both ends. Assumes nothing.
+-- A kept text: cut at the first zero byte, then trimmed at both ends.
 use Prim.Native.Nat.{ℕ, zero, suc, _+_}
 use mathlib.Core.List.{List, [], _∷_}
 use mathlib.Core.Bool.{Bool, true, false}

@@ -1,4 +1,4 @@
--- What the reading of a whole file comes to. Assumes nothing.
+-- What the reading of a whole file comes to.
 use Prim.Native.Nat.{ℕ}
 use mathlib.Core.List.{List}
 use lib.ListN.{length, take}
@@ -21,7 +21,7 @@ pub data Verdict (A : Type 0) : Type 0 where
   badCount : Counted → ℕ → Verdict A
   empty : Verdict A
 
--- why reading stopped, as an outcome: what it is that the bytes end is given
+-- the verdict of a reading that stopped; `ends` is the verdict where the bytes end before the format does
 abbrev pub stopVerdict : {A : Type 0} → Verdict A → Stop → Verdict A
 stopVerdict ends S.Ends = ends
 stopVerdict ends S.Text = truncated

@@ -1,4 +1,4 @@
--- What a program of reads hands on. Assumes nothing.
+-- What a program of reads hands on.
 use Prim.Native.Nat.{ℕ, _≤_, _<_}
 use mathlib.Core.Path.{_≡_}
 use mathlib.Core.List.{List}

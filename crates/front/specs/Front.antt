@@ -1,4 +1,4 @@
--- What stands before the beats: the song, the headers and the tracks. Assumes nothing.
+-- What stands before the beats: the song, the headers and the tracks.
 use Prim.Native.Nat.{ℕ}
 use mathlib.Core.List.{List, []}
 use Rattle.model.specs.declared.Time.{Time}

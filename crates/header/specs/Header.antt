@@ -1,4 +1,4 @@
--- Counts of bars and tracks, and bar headers. Assumes nothing.
+-- Counts of bars and tracks, and bar headers.
 use Prim.Native.Nat.{ℕ, _+_, _-_}
 use mathlib.Core.Bool.{Bool, false, not}
 use lib.Dec.{leb, ltb, eqb}
@@ -132,7 +132,7 @@ noHeader =
       «swing_lost» = false;
     }
 
--- a repeat count over 2 is a loss (RULES.md 27)
+-- a repeat count over 2 is a loss (docs/RULES.md 27)
 unfoldable pub headerOf : ℕ → ℕ → Time → Marks → Tail → Header
 headerOf v flags t m rest =
     record {

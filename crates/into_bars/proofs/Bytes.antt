@@ -1,4 +1,4 @@
--- Parts of a file, and whether two have the same bytes; whether a text is entered, from the last back. Assumes nothing.
+-- Parts of a file, and whether two have the same bytes; whether a text is entered, from the last back.
 use Prim.Native.Nat.{ℕ, suc, _+_, _-_, _≤_, _<_, min}
 use native.Mathlib.Omega.{arith}
 use native.Mathlib.Decide.{decLe}

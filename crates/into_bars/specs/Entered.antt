@@ -1,4 +1,4 @@
--- A text of a file, and a text of the table that it is compared with. Assumes nothing.
+-- A text of a file, and a text of the table that it is compared with.
 use Prim.Native.Nat.{ℕ, _+_, _*_}
 use mathlib.Core.Bool.{Bool, _&&_}
 use mathlib.Core.List.{List}

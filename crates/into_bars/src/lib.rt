@@ -136,7 +136,7 @@ fn same_key(a: Key, b: Key) -> bool
     (kinds::fifths_word(a) == kinds::fifths_word(b)) & (kinds::mode_word(a) == kinds::mode_word(b))
 }
 
-// Against the last key read, and not the bar before (RULES.md 10).
+// Against the last key read, and not the bar before (docs/RULES.md 10).
 fn key_changed(bar: u32, before: Key, key: Key) -> bool
     ensures { λ r. ⌜ r ≡ keyChanged bar before key ⌝ }
 {
@@ -152,7 +152,7 @@ fn key_after(before: Key, key: Key) -> Key
     }
 }
 
-// Whether flats are preferred from a bar of this key on (RULES.md 16).
+// Whether flats are preferred from a bar of this key on (docs/RULES.md 16).
 pub fn flat_after(flat: bool, key: Key) -> bool
     ensures { λ r. ⌜ r ≡ flatAfter flat key ⌝ }
 {
@@ -164,7 +164,7 @@ pub fn flat_after(flat: bool, key: Key) -> bool
 
 // ---- endings
 
-// Whether a bar goes on with the ending of the bar before it (RULES.md 9).
+// Whether a bar goes on with the ending of the bar before it (docs/RULES.md 9).
 fn goes_on(before: Before, header: Header) -> bool
     ensures { λ r. ⌜ r ≡ goesOn before header ⌝ }
 {

@@ -1,4 +1,4 @@
-// Texts of beats: each once for its bar and track, both voices together (RULES.md 28).
+// Texts of beats: each once for its bar and track, both voices together (docs/RULES.md 28).
 use entries::texts::TEXT_WORDS;
 use entries::texts::store_text;
 use format::Range;

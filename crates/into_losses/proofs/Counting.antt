@@ -1,4 +1,4 @@
--- The losses of the song and of a beat, one after another. Assumes nothing.
+-- The losses of the song and of a beat, one after another.
 use Prim.Native.Nat.{ℕ, zero, suc, _+_, _%_, _≤_, _<_}
 use mathlib.Core.Path.{_≡_, refl, sym, _∙_}
 use mathlib.Core.Bool.{Bool, true, false, not, _||_, true≢false}

@@ -1,4 +1,4 @@
--- Sums as far as a word goes, the rooms that are added so, and whether a text is there. Assumes nothing.
+-- Sums as far as a word goes, the rooms that are added so, and whether a text is there.
 use Prim.Native.Nat.{ℕ, zero, suc, _+_, _%_, _≤_, _<_}
 use mathlib.Core.Path.{_≡_, refl, sym, _∙_}
 use mathlib.Core.List.{List, [], _∷_}

@@ -1,4 +1,4 @@
--- Whether a grace is a loss. Assumes nothing.
+-- Whether a grace is a loss.
 use mathlib.Core.Bool.{Bool, false}
 use Rattle.note.specs.declared.marks.GraceNote.{GraceNote}
 use Rattle.note.specs.declared.marks.GraceNote.the-variants.{NoGrace, Before}

@@ -1,4 +1,4 @@
--- A note that loses nothing. Assumes nothing.
+-- A note that loses nothing.
 use mathlib.Core.Path.{_≡_}
 use mathlib.Core.List.{[]}
 use Rattle.note.specs.declared.NoteRead.{NoteRead}

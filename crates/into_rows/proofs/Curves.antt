@@ -1,4 +1,4 @@
--- The points of a bend, gathered where they stand in the file and read off in order. Assumes nothing.
+-- The points of a bend, gathered where they stand in the file and read off in order.
 use Prim.Native.Nat.{ℕ, zero, suc, _+_, _-_, _<_, _≤_, min}
 use native.Mathlib.Omega.{arith}
 use native.Mathlib.Decide.{decLe}

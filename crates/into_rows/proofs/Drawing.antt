@@ -1,4 +1,4 @@
--- A row by its draft, with the members and the curve that it has. Assumes nothing.
+-- A row by its draft, with the members and the curve that it has.
 use Prim.Native.Nat.{ℕ, _*_}
 use native.Mathlib.Omega.{arith}
 use mathlib.Core.Path.{_≡_, refl, _∙_}

@@ -1,4 +1,4 @@
--- Entries and ties in the tables of words: one after another, and whatever the file. Assumes nothing.
+-- Entries and ties in the tables of words: one after another, and whatever the file.
 use Prim.Native.Nat.{ℕ, zero, suc, _+_, _*_, _-_, _<_}
 use native.Mathlib.Omega.{arith}
 use native.Mathlib.Nat.{add-zero}

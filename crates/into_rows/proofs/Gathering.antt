@@ -1,4 +1,4 @@
--- The members of a chord's row: their ties, one after another in their table, the first, the only one. Assumes nothing.
+-- The members of a chord's row: their ties, one after another in their table, the first, the only one.
 use Prim.Native.Nat.{ℕ, _+_, _*_, _<_}
 use native.Mathlib.Omega.{arith}
 use native.Mathlib.Numerals.{add-one}

@@ -1,4 +1,4 @@
--- The members of a grace row, note by note of its chord. Assumes nothing.
+-- The members of a grace row, note by note of its chord.
 use Prim.Native.Nat.{ℕ, suc, _+_, _*_, _<_}
 use native.Mathlib.Omega.{arith}
 use native.Mathlib.Nat.{add-zero}

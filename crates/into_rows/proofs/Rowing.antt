@@ -1,4 +1,4 @@
--- A row entered in its three tables, and the rows of a beat. Assumes nothing.
+-- A row entered in its three tables, and the rows of a beat.
 use Prim.Native.Nat.{ℕ, _*_, _≤_, min}
 use native.Mathlib.Omega.{arith}
 use native.Mathlib.Decide.{decLe}

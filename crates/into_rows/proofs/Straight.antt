@@ -1,4 +1,4 @@
--- The row of a beat of plain notes: its words, what it does to the rows before it, and its tables. Assumes nothing.
+-- The row of a beat of plain notes: its words, what it does to the rows before it, and its tables.
 use Prim.Native.Nat.{ℕ, _*_, _≤_}
 use native.Mathlib.Omega.{arith}
 use native.Mathlib.Nat.{add-zero}

@@ -1,4 +1,4 @@
--- Parts of the entry of a row, and of what is remembered after it. Assumes nothing.
+-- Parts of the entry of a row, and of what is remembered after it.
 use Prim.Native.Nat.{ℕ}
 use mathlib.Core.Path.{_≡_}
 use mathlib.Core.List.{List, []}

@@ -1,4 +1,4 @@
--- The row of a beat of plain notes. Assumes nothing.
+-- The row of a beat of plain notes.
 use mathlib.Core.Bool.{Bool, false}
 use mathlib.Core.List.{List, [], map}
 use Rattle.curve.specs.declared.level.Level.{Level}

@@ -102,7 +102,7 @@ pub(crate) fn start_ties(
 
 // ---- members
 
-// The finger of an only member is the row's (RULES.md 1).
+// The finger of an only member is the row's (docs/RULES.md 1).
 fn unfingered_if(only: bool, member: Member) -> Member
     ensures { λ r. ⌜ r ≡ pick only (unfingered member) member ⌝ }
 {

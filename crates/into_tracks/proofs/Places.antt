@@ -1,4 +1,4 @@
--- Where the words of a part stand, and what stands there. Assumes nothing.
+-- Where the words of a part stand, and what stands there.
 use Prim.Native.Nat.{ℕ, zero, suc, _+_, _-_, min}
 use mathlib.Core.Path.{_≡_, refl, sym, _∙_}
 use mathlib.Core.List.{List, [], _∷_, _++_}

@@ -1,4 +1,4 @@
--- The change of a voice's memory by one note. Assumes nothing.
+-- The change of a voice's memory by one note.
 use Prim.Native.Nat.{ℕ}
 use lib.ListN.{set}
 use Rattle.score.specs.declared.LastFret.the-variants.{Fret}

@@ -1,4 +1,4 @@
--- What each function that reads a part of a note returns, over variables: the facts of its calls are the premises. Assumes nothing.
+-- What each function that reads a part of a note returns, over variables: the facts of its calls are the premises.
 use Prim.Native.Nat.{ℕ, _+_, _≤_, _<_, _%_}
 use native.Mathlib.Omega.{arith}
 use mathlib.Core.Path.{_≡_, refl}

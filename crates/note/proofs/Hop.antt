@@ -1,4 +1,4 @@
--- Plain notes are hopped over: what the bytes are that are passed, and the loop over a set of bits that counts them. Assumes nothing.
+-- Plain notes are hopped over: what the bytes are that are passed, and the loop over a set of bits that counts them.
 use Prim.Native.Nat.{ℕ, zero, suc, _+_, _-_, _*_, _%_, _≤_, _<_}
 use native.Mathlib.Omega.{arith}
 use mathlib.Core.Path.{_≡_, refl, sym, ap, _∙_}

@@ -1,4 +1,4 @@
--- A note without flags of effects has no effects and no bend; one without accents too is plain. Assumes nothing.
+-- A note without flags of effects has no effects and no bend; one without accents too is plain.
 use Prim.Native.Nat.{ℕ, _+_}
 use mathlib.Core.Path.{_≡_, refl, sym, _∙_}
 use mathlib.Core.Bool.{Bool, true, false, not, _||_, true≢false}

@@ -1,4 +1,4 @@
--- A plain note is read straight on, over variables: its flags have 0x20, and none of 0x01, 0x08 and 0x80. Assumes nothing.
+-- A plain note is read straight on, over variables: its flags have 0x20, and none of 0x01, 0x08 and 0x80.
 use Prim.Native.Nat.{ℕ, _+_, _-_, _≤_}
 use native.Mathlib.Omega.{arith}
 use mathlib.Core.Path.{_≡_, refl, _∙_}

@@ -1,5 +1,5 @@
 -- Past the notes of a beat, where all are plain: kind, fret and perhaps a dynamic. A shortcut for a pass that only counts: nothing of them
--- is kept. Assumes nothing.
+-- is kept.
 use Prim.Native.Nat.{ℕ, zero, suc, _+_, _≤_}
 use mathlib.Core.Path.{_≡_}
 use mathlib.Core.Bool.{Bool, true, false}

@@ -1,5 +1,5 @@
 -- What the words of a note mean. Each of its bytes stands in a word of its own, as the file has it, in the file's order; the
--- definitions of the format say what is made of them. Assumes nothing.
+-- definitions of the format say what is made of them.
 use Prim.Native.Nat.{ℕ, zero, suc, _+_, _*_, _-_, _/_, _%_, _^_, _<_, _≤_}
 use mathlib.Core.Path.{_≡_}
 use mathlib.Core.List.{List, [], _∷_}

@@ -1,4 +1,4 @@
--- The three ways in which a reading ends. Assumes nothing.
+-- The three ways in which a reading ends.
 use Prim.Native.Nat.{ℕ}
 use mathlib.Core.Path.{_≡_, refl, ap, sym, _∙_}
 use mathlib.Core.Bool.{Bool, true, false}

@@ -1,4 +1,4 @@
--- The parts of a pass are the parts of the whole file. Assumes nothing.
+-- The parts of a pass are the parts of the whole file.
 use Prim.Native.Nat.{ℕ}
 use mathlib.Core.Path.{_≡_, refl}
 use mathlib.Core.Bool.{Bool}

@@ -1,4 +1,4 @@
--- The answer of a pass that filled the tables. Assumes nothing.
+-- The answer of a pass that filled the tables.
 use Prim.Native.Nat.{ℕ}
 use mathlib.Core.List.{List, []}
 use lib.ListN.{getD}

@@ -1,4 +1,4 @@
--- One pass over a file, into the words of seven slices. Assumes nothing.
+-- One pass over a file, into the words of seven slices.
 use Prim.Native.Nat.{ℕ}
 use mathlib.Core.Bool.{Bool}
 use mathlib.Core.List.{List}

@@ -1,4 +1,4 @@
--- What each pass of a reading leaves, and the result of the whole. Assumes nothing.
+-- What each pass of a reading leaves, and the result of the whole.
 use Prim.Native.Nat.{ℕ, _*_, _≤_}
 use mathlib.Core.Path.{_≡_}
 use mathlib.Core.Bool.{true, false}

@@ -1,4 +1,4 @@
--- How a pass begins. Assumes nothing.
+-- How a pass begins.
 use Prim.Native.Nat.{ℕ}
 use mathlib.Core.Bool.{false}
 use mathlib.Core.List.{List}

@@ -1,4 +1,4 @@
--- The smallest files, run through the definition by the checker: how far each goes, and what is added on the way. Assumes nothing.
+-- The smallest files, run through the definition by the checker: how far each goes, and what is added on the way.
 use Prim.Native.Nat.{ℕ, _+_, _*_}
 use mathlib.Core.Path.{_≡_, refl}
 use mathlib.Core.List.{List, [], _∷_, _++_}

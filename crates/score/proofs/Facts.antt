@@ -1,4 +1,4 @@
--- What a reading hands on: where beats, headers and tracks end, the ranges of their texts and numbers. Assumes nothing.
+-- What a reading hands on: where beats, headers and tracks end, the ranges of their texts and numbers.
 use Prim.Native.Nat.{ℕ, zero, suc, _+_, _*_, _-_, _≤_, _<_, min, max}
 use native.Mathlib.Omega.{arith}
 use mathlib.Core.Path.{_≡_, refl, _∙_}
@@ -54,12 +54,12 @@ use Rattle.score.specs.Rows.{marksOfNotes, beatMarks, addedAll, marksOf 
 use Rattle.score.specs.Page.{bendRoom, bendRooms}
 
 -- ---- the facts: of what begins at a position of the file s and ends at n
--- frets are held to 0..99 (RULES.md 14)
+-- frets are held to 0..99 (docs/RULES.md 14)
 abbrev pub GraceFits : GraceNote → Type 0
 GraceFits NoGrace = Unit {0}
 GraceFits (Before g) = g .fret ≤ 99
 
--- a dynamic is held to 1..8 (RULES.md 14)
+-- a dynamic is held to 1..8 (docs/RULES.md 14)
 abbrev pub LevelFits : Level → Type 0
 LevelFits Absent = Unit {0}
 LevelFits (Given n) = n ≤ 8

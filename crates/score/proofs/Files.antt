@@ -1,5 +1,5 @@
 -- Small inputs of the oracle's fixed list, run through the definitions by the checker: bytes used, entries kept, rooms needed and
--- losses are the oracle's. Written by tools/spec-examples. Assumes nothing.
+-- losses are the oracle's. Written by tools/spec-examples.
 use Prim.Native.Nat.{ℕ}
 use mathlib.Core.Path.{_≡_, refl}
 use mathlib.Core.List.{List, [], _∷_}

@@ -1,4 +1,4 @@
--- One file added to two states: where every step keeps them alike, so does the whole file. Assumes nothing.
+-- One file added to two states: where every step keeps them alike, so does the whole file.
 use Prim.Native.Nat.{ℕ, zero, suc, _+_, _≤_, _<_}
 use native.Mathlib.Omega.{arith}
 use mathlib.Core.Path.{_≡_, refl, sym}

@@ -1,4 +1,4 @@
--- What can be counted of a reading: bytes used, entries kept, rooms needed, losses. Assumes nothing.
+-- What can be counted of a reading: bytes used, entries kept, rooms needed, losses.
 use Prim.Native.Nat.{ℕ}
 use mathlib.Core.List.{List, [], _∷_, _++_}
 use lib.ListN.{length}

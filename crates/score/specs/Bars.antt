@@ -1,4 +1,4 @@
--- Bars: what is made of a header, of the headers before it, and of the directions. Assumes nothing.
+-- Bars: what is made of a header, of the headers before it, and of the directions.
 use Prim.Native.Nat.{ℕ, _+_}
 use mathlib.Core.List.{List, [], _∷_}
 use mathlib.Core.Bool.{Bool, true, false, not, _&&_}
@@ -76,13 +76,13 @@ abbrev pub keyAfter : Key → Key → Key
 keyAfter before NoKey = before
 keyAfter before (Fifths n m) = Fifths n m
 
--- flats are preferred where it is below 0 (RULES.md 16)
+-- flats are preferred where it is below 0 (docs/RULES.md 16)
 abbrev pub flatAfter : Bool → Key → Bool
 flatAfter flat NoKey = flat
 flatAfter flat (Fifths (pos n) m) = false
 flatAfter flat (Fifths (negsuc n) m) = true
 
--- ---- whether time or key changed: never in bar 0; the key is compared with the last key read (RULES.md 10)
+-- ---- whether time or key changed: never in bar 0; the key is compared with the last key read (docs/RULES.md 10)
 abbrev pub sameTime : Time → Time → Bool
 sameTime a b = eqb (a .numerator) (b .numerator) && eqb (a .denominator) (b .denominator)
 
@@ -99,7 +99,7 @@ keyChanged bar before key = ltb 0 bar && isKey key && not (sameKey key before)
 unfoldable pub timeChanged : ℕ → Time → Time → Bool
 timeChanged bar before time = ltb 0 bar && not (sameTime before time)
 
--- ---- endings: place among equal neighbours; a neighbour that does not exist has ending 0 (RULES.md 9)
+-- ---- endings: place among equal neighbours; a neighbour that does not exist has ending 0 (docs/RULES.md 9)
 abbrev pub goesOn : Before → Header → Bool
 goesOn before h = not (eqb (h .ending) 0) && eqb (before .ending) (h .ending)
 

@@ -1,5 +1,5 @@
 -- The skeleton of a whole file, to the last voice of the last bar, generic in the states that headers, tracks and beats are
--- added to. Assumes nothing.
+-- added to.
 use Prim.Native.Nat.{ℕ}
 use mathlib.Core.Bool.{Bool}
 use mathlib.Core.List.{List}

@@ -1,5 +1,5 @@
--- What is kept of a file: the entries of the six tables, and what is remembered on the way to them. Said of tables in general: lists of
--- entries here, the words of a caller's slices in a reader. Assumes nothing.
+-- What is kept of a file: the entries of the six tables, and what is remembered on the way. The tables may be anything that has the
+-- operations below: lists of entries, for the definition of a score, or the words of slices, for the reader.
 use Prim.Native.Nat.{ℕ, _+_, _-_}
 use mathlib.Core.List.{List, [], _∷_, _++_}
 use mathlib.Core.Bool.{Bool, true, false, not, _&&_}
@@ -85,23 +85,23 @@ Entry points = Point
 Entry texts = TextIs
 Entry parts = Part
 
--- T says what stands for each table. Numbers of entries, and of reports, are gone up by `plus`
+-- T k is the table of kind k. `plus` adds to a number of entries or of reports
 pub record Operations (T : Kind → Type 0) : Type 0 where
   pub plus : ℕ → ℕ → ℕ
-  -- an entry after those that are there, whose number is given
+  -- adds an entry, given the number of those that are there
   pub add : (k : Kind) → ℕ → Entry k → T k → T k
-  -- of bars: one whose ending goes on in the next, the key of one, one that is given a tempo unless it has one
+  -- in a table of bars: the ending of this bar goes on in the next; its key; it gets this tempo unless it has one
   pub goOn : ℕ → T bars → T bars
   pub keyAt : ℕ → T bars → Key
   pub tempoAt : ℕ → Tempo → T bars → T bars
-  -- of rows: one that turns pull-off, one at which the ottava does not end
+  -- in a table of rows: the row of this number becomes a pull-off; its ottava does not end there
   pub pullOff : ℕ → T rows → T rows
   pub carryOn : ℕ → T rows → T rows
-  -- of members: a tie starts at the first of some that answers a tied one
+  -- in a table of members: a tie starts at the first member of the span that answers the tied one
   pub startTie : Span → Member → T members → T members
-  -- of texts: whether one is entered among so many
+  -- in a table of texts: whether this one stands among the first so many
   pub entered : ℕ → TextIs → T texts → Bool
-  -- of parts, by track and voice
+  -- in a table of parts, what is remembered of a track: by its number, and a voice of it
   pub boardAt : ℕ → T parts → Fretboard
   pub voiceAt : ℕ → ℕ → T parts → Voice
   pub putVoice : ℕ → ℕ → Voice → T parts → T parts
@@ -110,11 +110,11 @@ pub record Operations (T : Kind → Type 0) : Type 0 where
 
 -- ---- the entry of a row
 
--- entries of another table: 0 of them at place 0 where there are none
+-- a span of another table: where it is empty, its first is 0 as well
 abbrev pub spanOf : (first count : ℕ) → Span
 spanOf first count = pick (eqb count 0) (record { first = 0; count = 0 }) (record { first = first; count = count })
 
--- in a row of one member the member has no finger, and the row has its plain finger (RULES.md 1)
+-- in a row of one member the member has no finger, and the row has its plain finger (docs/RULES.md 1)
 abbrev pub plainFinger : List Member → Finger
 plainFinger [] = NoFinger
 plainFinger (m ∷ []) = m .finger

@@ -1,4 +1,4 @@
--- What reading a file into lent tables answers, and what it leaves in them. Assumes nothing.
+-- What reading a file into lent tables answers, and what it leaves in them.
 use Prim.Native.Nat.{ℕ, _/_}
 use mathlib.Core.Bool.{Bool, _&&_}
 use mathlib.Core.List.{List}

@@ -1,4 +1,4 @@
--- Rows: what a kept beat gives, with its members and its curve. Assumes nothing.
+-- Rows: what a kept beat gives, with its members and its curve.
 use Prim.Native.Nat.{ℕ}
 use mathlib.Core.List.{List, [], _∷_, _++_, map}
 use mathlib.Core.Bool.{Bool, true, false, _&&_, _||_}

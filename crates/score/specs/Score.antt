@@ -1,4 +1,4 @@
--- The six tables as lists of entries: what a whole file gives. Assumes nothing.
+-- The six tables as lists of entries: what a whole file gives.
 use Prim.Native.Nat.{ℕ, zero, suc, _+_}
 use mathlib.Core.List.{List, [], _∷_, _++_}
 use mathlib.Core.Bool.{Bool, true, false, _&&_}
@@ -49,7 +49,7 @@ abbrev pub startFirst : (i count : ℕ) → Member → List Member → List Memb
 startFirst i zero tied ms = ms
 startFirst i (suc k) tied ms = pick (answers tied (getD ms i noMember)) (change (withTieStart true) ms i) (startFirst (i + 1) k tied ms)
 
--- texts are equal when their bytes are (RULES.md 28)
+-- texts are equal when their bytes are (docs/RULES.md 28)
 abbrev pub sameBytes : List ℕ → List ℕ → Bool
 sameBytes [] [] = true
 sameBytes [] (y ∷ ys) = false

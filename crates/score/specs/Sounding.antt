@@ -1,4 +1,4 @@
--- Notes: which of a beat's notes sound, at which fret, and what their voice remembers. Assumes nothing.
+-- Notes: which of a beat's notes sound, at which fret, and what their voice remembers.
 use Prim.Native.Nat.{ℕ, zero, suc, _+_}
 use mathlib.Core.List.{List, [], _∷_}
 use mathlib.Core.Bool.{Bool, _&&_}

@@ -1,4 +1,4 @@
--- Laws of a version's text: its start, its digits and its number, position by position. Assumes nothing.
+-- Laws of a version's text: its start, its digits and its number, position by position.
 use Prim.Native.Nat.{ℕ, _+_, _*_, _-_, _≤_, _<_, min}
 use native.Mathlib.Omega.{arith}
 use native.Mathlib.Decide.{decLe}

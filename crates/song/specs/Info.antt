@@ -1,4 +1,4 @@
--- The song's texts, its notices and its lyrics. Assumes nothing.
+-- The song's texts, its notices and its lyrics.
 use Prim.Native.Nat.{ℕ}
 use mathlib.Core.Bool.{Bool, false, not}
 use mathlib.Core.List.{_∷_, []}
@@ -74,7 +74,7 @@ unfoldable pub tripletFeel : ℕ → Prog Bool
 tripletFeel v = whenLe 500 v (ret false) (bind u8 (λ b. ret (not (eqb b 0))))
 
 -- ---- lyrics: a track and five lines from v400 on, none before
--- the number less one, with wrapping, and none where that is negative; not bounded by the number of tracks (RULES.md 25)
+-- the number less one, with wrapping, and none where that is negative; not bounded by the number of tracks (docs/RULES.md 25)
 unfoldable pub lyricTrack : ℕ → LyricTrack
 lyricTrack v = pick (leb NEGATIVE (lessOneWrapped v)) NoLyricTrack (Under (lessOneWrapped v))
 

@@ -1,4 +1,4 @@
--- Page setup, tempo, channel table and directions. Assumes nothing.
+-- Page setup, tempo, channel table and directions.
 use Prim.Native.Nat.{ℕ}
 use mathlib.Core.List.{List}
 use lib.ListN.{replicate, set}

@@ -1,5 +1,5 @@
 -- Version: a length byte, then 30 bytes. After trimming: "FICHIER GUITAR PRO v", an optional "+", digits, ".", digits, both up
--- to 65,535; the rest is ignored. Assumes nothing.
+-- to 65,535; the rest is ignored.
 use Prim.Native.Nat.{ℕ, suc, _+_, _*_, _-_}
 use mathlib.Core.List.{List, [], _∷_}
 use mathlib.Core.Bool.{Bool, true, false}
@@ -20,7 +20,7 @@ starts [] l = true
 starts (p ∷ ps) [] = false
 starts (p ∷ ps) (x ∷ xs) = pick (eqb p x) (starts ps xs) false
 
--- a Guitar Pro 3, 4 or 5 file starts with "FICHIER GUITAR PRO " after its length byte, whatever that says (RULES.md 2)
+-- a Guitar Pro 3, 4 or 5 file starts with "FICHIER GUITAR PRO " after its length byte, whatever that says (docs/RULES.md 2)
 unfoldable pub isFamily : List ℕ → Bool
 isFamily l = starts (take 19 PREFIX) (drop 1 l)
 

@@ -1,5 +1,5 @@
 -- Document 01, "Bytes passed over": which bytes are kept of the kinds of field that it names. The values that it names
--- are `skip` in the format. Assumes nothing.
+-- are `skip` in the format.
 use Prim.Native.Nat.{ℕ, _+_, _-_, _≤_, _<_}
 use native.Mathlib.Omega.{arith}
 use mathlib.Core.Logic.{_⊎_, inl, inr}

@@ -1,5 +1,5 @@
 -- What the promise of `read` comes to, demand by demand: the demand's words stand before each theorem. Promise.antt has
--- the words that they use, Laws.antt, Filled.antt and FitFile.antt the longer proofs. Assumes nothing.
+-- the words that they use, Laws.antt, Filled.antt and FitFile.antt the longer proofs.
 use Prim.Native.Nat.{ℕ, _≤_, _<_}
 use mathlib.Core.Logic.{_↔_}
 use mathlib.Core.Path.{_≡_, refl, sym, _∙_}

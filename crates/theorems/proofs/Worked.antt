@@ -1,5 +1,5 @@
 -- The worked examples of document 01, "How much each promise says", as a single table under a single theorem; and two more of its
--- sentences on versions. All by computation. Assumes nothing.
+-- sentences on versions. All by computation.
 use Prim.Native.Nat.{ℕ, _-_}
 use mathlib.Core.Path.{_≡_, refl}
 use mathlib.Core.List.{List, [], _∷_, _++_}

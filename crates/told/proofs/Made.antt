@@ -1,4 +1,4 @@
--- Every reading of a file is made of what the file tells. Assumes nothing.
+-- Every reading of a file is made of what the file tells.
 use Prim.Native.Nat.{ℕ, _+_}
 use native.Mathlib.Omega.{arith}
 use mathlib.Core.Path.{_≡_, refl, sym, ap, _∙_}

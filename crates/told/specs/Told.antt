@@ -1,4 +1,4 @@
--- What a file tells: its headers, tracks and beats in the order read, and what is made of them. Assumes nothing.
+-- What a file tells: its headers, tracks and beats in the order read, and what is made of them.
 use Prim.Native.Nat.{ℕ, _<_}
 use mathlib.Core.List.{List, [], _∷_, _++_}
 use Rattle.format.specs.Prog.{Prog}

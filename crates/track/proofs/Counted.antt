@@ -1,4 +1,4 @@
--- A count that was read is within its limit. Assumes nothing.
+-- A count that was read is within its limit.
 use Prim.Native.Nat.{ℕ, _≤_}
 use native.Mathlib.Omega.{arith}
 use native.Mathlib.Decide.{decLe}

@@ -1,4 +1,4 @@
--- Tracks. Assumes nothing.
+-- Tracks.
 use Prim.Native.Nat.{ℕ, _-_, _*_, min}
 use mathlib.Core.List.{List, []}
 use mathlib.Core.Bool.{Bool, false, not, _&&_, _||_}
@@ -21,7 +21,7 @@ use Rattle.track.specs.declared.Staff.{Staff}
 use Rattle.track.specs.declared.Strings.{Strings}
 use Rattle.track.specs.declared.TrackHeader.{TrackHeader}
 
--- ---- strings: at most seven tunings, in file order, each held to 0..127 (RULES.md 14)
+-- ---- strings: at most seven tunings, in file order, each held to 0..127 (docs/RULES.md 14)
 unfoldable pub noTunings : List ℕ
 noTunings = replicate 7 0
 
@@ -47,7 +47,7 @@ strings =
 unfoldable pub numbered : ℕ → ℕ → ℕ
 numbered last v = min (fromZero v) last
 
--- the capo is held to 0..24 (RULES.md 14); passed over: "effect channel, fret count", and of the colour "every byte a `skip` passes"
+-- the capo is held to 0..24 (docs/RULES.md 14); passed over: "effect channel, fret count", and of the colour "every byte a `skip` passes"
 unfoldable pub sound : Prog Sound
 sound =
     bind u32 (λ p.
@@ -74,7 +74,7 @@ staff v =
     ret (record { flags = flags; clef = clef })))))))
     (ret (record { flags = 1; clef = 0 }))
 
--- tablature: no percussion, at least one string and, from v500, the staff flag 0x01 (before, as if it were set; RULES.md 18)
+-- tablature: no percussion, at least one string and, from v500, the staff flag 0x01 (before, as if it were set; docs/RULES.md 18)
 unfoldable pub tablatureOf : Bool → ℕ → ℕ → Bool
 tablatureOf percussion strings flags = not percussion && (ltb 0 strings && has flags 0x01)
 
@@ -82,7 +82,7 @@ tablatureOf percussion strings flags = not percussion && (ltb 0 strings && has f
 unfoldable pub low : Strings → Bool
 low s = ltb 0 (s .count) && ltb (getD (s .tunings) (s .count - 1) 0) 35
 
--- percussion; else bass where the last tuning is under 35 or, from v500, the clef field is 12; else treble (RULES.md 18)
+-- percussion; else bass where the last tuning is under 35 or, from v500, the clef field is 12; else treble (docs/RULES.md 18)
 unfoldable pub clefOf : Bool → Strings → ℕ → Clef
 clefOf percussion s field = pick percussion Percussion (pick (low s || eqb field 12) Bass Treble)
 

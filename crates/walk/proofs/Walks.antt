@@ -1,4 +1,4 @@
--- A beat counted, a bar entered, and the walk with its losses lent. Assumes nothing.
+-- A beat counted, a bar entered, and the walk with its losses lent.
 use Prim.Native.Nat.{ℕ, _+_, _-_, _<_, _≤_}
 use mathlib.Core.Path.{_≡_, _∙_, sym}
 use mathlib.Core.Bool.{Bool, true}

@@ -1,4 +1,4 @@
--- The whole file with the words of the tables as its states. Assumes nothing.
+-- The whole file with the words of the tables as its states.
 use Prim.Native.Nat.{ℕ}
 use mathlib.Core.Bool.{Bool, true}
 use mathlib.Core.List.{List, []}

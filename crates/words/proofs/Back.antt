@@ -12,7 +12,6 @@ use Rattle.score.specs.declared.OttavaRun.{OttavaRun}
 use Rattle.score.specs.declared.OttavaRun.the-variants.{NoRun, Over}
 use Rattle.words.specs.Words.{fretWord, fretOf, hammerOf, runWords, runOf}
 
-
 pub fret-back : (f : ℕ) → f < 256 → fretOf (fretWord (Fret f)) ≡ Fret f
 unfolding fretOf
 fret-back f h = rw (add-one, mod-eq-of-lt h)

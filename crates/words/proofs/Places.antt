@@ -1,4 +1,4 @@
--- More ways from one place to another. Assumes nothing.
+-- More ways from one place to another.
 use Prim.Native.Nat.{ℕ}
 use mathlib.Core.Path.{_≡_}
 use mathlib.Core.List.{List}

@@ -1,4 +1,4 @@
--- Reports one after another: the counts after some are the counts that the next are added to. Assumes nothing.
+-- Reports one after another: the counts after some are the counts that the next are added to.
 use Prim.Native.Nat.{ℕ, _+_}
 use mathlib.Core.Path.{_≡_, refl}
 use mathlib.Core.List.{List, [], _∷_, _++_}

@@ -1,4 +1,4 @@
--- The words of a voice: what is said after a store, and the words that are kept. Assumes nothing.
+-- The words of a voice: what is said after a store, and the words that are kept.
 use Prim.Native.Nat.{ℕ, zero, suc, _+_, _-_, _%_}
 use mathlib.Core.Path.{_≡_, refl}
 use mathlib.Core.List.{List, [], _∷_, _++_, append-assoc}

@@ -1,5 +1,5 @@
 -- A pass that only counts: of each beat the rows and members that it makes and the rooms that it needs. No table is changed, and
--- nothing is remembered of a track but what it is played on. Assumes nothing.
+-- nothing is remembered of a track but what it is played on.
 use Prim.Native.Nat.{ℕ, _+_, _*_}
 use mathlib.Core.Bool.{Bool}
 use mathlib.Core.List.{List, [], _∷_}

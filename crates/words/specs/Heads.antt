@@ -1,4 +1,4 @@
--- The states that headers and tracks are added to, of a reader's slices and values. Assumes nothing.
+-- The states that headers and tracks are added to, of a reader's slices and values.
 use Prim.Native.Nat.{ℕ}
 use mathlib.Core.Bool.{false}
 use mathlib.Core.List.{List, []}

@@ -1,4 +1,4 @@
--- The slices that a reading is lent, as words: the six tables, and the reader's own for what is remembered of each track. Assumes nothing.
+-- The slices that a reading is lent, as words: the six tables, and the reader's own for what is remembered of each track.
 use Prim.Native.Nat.{ℕ}
 use mathlib.Core.List.{List}
 use Rattle.score.specs.Page as Page

@@ -1,4 +1,4 @@
--- Slices with the values that go with them, as states of the definitions. Assumes nothing.
+-- Slices with the values that go with them, as states of the definitions.
 use Prim.Native.Nat.{ℕ}
 use mathlib.Core.List.{List}
 use Rattle.score.specs.declared.Kept.{Kept}

@@ -1,4 +1,4 @@
--- Losses counted in words: the counts are the same in every file. Assumes nothing.
+-- Losses counted in words: the counts are the same in every file.
 use Prim.Native.Nat.{ℕ}
 use mathlib.Core.List.{List, []}
 use Rattle.model.specs.declared.Loss.{Loss}

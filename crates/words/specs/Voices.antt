@@ -1,4 +1,4 @@
--- A voice as fifteen words that are lent: what the words say, and a voice with one thing changed. Assumes nothing.
+-- A voice as fifteen words that are lent: what the words say, and a voice with one thing changed.
 use Prim.Native.Nat.{ℕ}
 use mathlib.Core.List.{List, map}
 use Rattle.model.specs.declared.Span.{Span}

@@ -1,5 +1,5 @@
 -- The tables as words: those of a caller's slices, and a slice of the reader's own for what is remembered of each track. A word that is
--- missing is 0, and a store past the end does nothing. Assumes nothing.
+-- missing is 0, and a store past the end does nothing.
 use Prim.Native.Nat.{ℕ, zero, suc, _+_, _*_, _%_}
 use mathlib.Core.List.{List, [], _∷_, _++_, map}
 use mathlib.Core.Bool.{Bool, true, false, _&&_}

@@ -421,7 +421,7 @@ fn long_copies(made: &Made, past: isize) -> Vec<Case> {
 }
 
 /// A count or a text's size that ends at the limit or past it, with a value that is refused: which
-/// refusal comes first (RULES.md 3).
+/// refusal comes first (docs/RULES.md 3).
 fn long_fields() -> Vec<Case> {
     let plan = Plan::smallest(VERSIONS[4]);
     let short = plain(&plan);

@@ -1,4 +1,4 @@
--- A word, and the tests of a count. Assumes nothing.
+-- A word, and the tests of a count.
 use borrow.Author.Needs.{needs}
 use Rattle.format.proofs.Rules.{reading}
 use Rattle.format.specs.Fields.{count, counted}

@@ -1,4 +1,4 @@
--- n bytes are passed over, where there are as many. Assumes nothing.
+-- n bytes are passed over, where there are as many.
 use borrow.Author.Needs.{needs}
 use native.Mathlib.Omega.{arith}
 use Rattle.format.proofs.Leaves.{skip-goes, skip-ends}

@@ -1,4 +1,4 @@
--- By the two tests. Assumes nothing.
+-- By the two tests.
 use borrow.Author.Needs.{needs}
 use borrow.Author.Tests.{le-leb, lt-leb}
 use Rattle.bin.specs.Part.{partOf}

@@ -1,4 +1,4 @@
--- Two bytes, where there are two. Assumes nothing.
+-- Two bytes, where there are two.
 use borrow.Author.Needs.{needs}
 use native.Mathlib.Omega.{arith}
 use Rattle.format.proofs.Leaves.{u16-goes, u16-ends}

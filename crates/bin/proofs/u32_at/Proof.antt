@@ -1,4 +1,4 @@
--- Four bytes, where there are four. Assumes nothing.
+-- Four bytes, where there are four.
 use borrow.Author.Needs.{needs}
 use native.Mathlib.Omega.{arith}
 use Rattle.format.proofs.Leaves.{u32-goes, u32-ends}

@@ -1,4 +1,4 @@
--- A byte, where there is one. Assumes nothing.
+-- A byte, where there is one.
 use borrow.Author.Needs.{needs}
 use Rattle.format.proofs.Leaves.{u8-goes, u8-ends}
 use Rattle.bin.proofs.u8_at.Statement.{statement}

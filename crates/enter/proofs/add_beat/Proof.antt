@@ -1,4 +1,4 @@
--- Plain, or call by call. Assumes nothing.
+-- Plain, or call by call.
 use borrow.Author.Needs.{needs}
 use native.Mathlib.Omega.{arith}
 use Rattle.beat.specs.Words.{beatIn}

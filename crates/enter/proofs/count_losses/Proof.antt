@@ -1,4 +1,4 @@
--- By the losses of the beat. Assumes nothing.
+-- By the losses of the beat.
 use borrow.Author.Needs.{needs}
 use mathlib.Core.Path.{sym}
 use lib.Seq.{length-take-le}

@@ -1,4 +1,4 @@
--- Field by field. Assumes nothing.
+-- Field by field.
 use borrow.Author.Needs.{needs}
 use Rattle.enter.proofs.enter_bar.Statement.{statement}
 use Rattle.enter.proofs.enter_bar.Tie as tie

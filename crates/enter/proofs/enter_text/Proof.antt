@@ -1,4 +1,4 @@
--- By whether the beat has a text. Assumes nothing.
+-- By whether the beat has a text.
 use borrow.Author.Needs.{needs}
 use mathlib.Core.Path.{sym, refl}
 use Rattle.enter.proofs.enter_text.Statement.{statement}

@@ -1,4 +1,4 @@
--- By whether the beat is kept. Assumes nothing.
+-- By whether the beat is kept.
 use borrow.Author.Needs.{needs}
 use mathlib.Core.Path.{ap, sym}
 use lib.Seq.{length-take-le}

@@ -1,4 +1,4 @@
--- What the reader gives, and its answer in words. Assumes nothing.
+-- What the reader gives, and its answer in words.
 use mathlib.Core.Path.{ap}
 use Rattle.score.specs.Reading.{Result}
 use borrow.Author.Needs.{needs}

@@ -1,4 +1,4 @@
--- Word by word. Assumes nothing.
+-- Word by word.
 use Rattle.export.specs.Said.{saidWords}
 use borrow.Author.Needs.{needs}
 use Rattle.export.proofs.said_words.Statement.{statement}

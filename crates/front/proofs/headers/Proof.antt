@@ -1,4 +1,4 @@
--- Header by header. Assumes nothing.
+-- Header by header.
 use borrow.Author.Needs.{needs}
 use Prim.Native.Nat.{_-_, _≤_}
 use native.Mathlib.Omega.{arith}

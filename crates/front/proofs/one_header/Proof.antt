@@ -1,4 +1,4 @@
--- A header is read, then added. Assumes nothing.
+-- A header is read, then added.
 use borrow.Author.Needs.{needs}
 use Rattle.format.proofs.Rules.{then, still}
 use Rattle.words.proofs.Places.{done-as}

@@ -1,4 +1,4 @@
--- Beam grouping, where it stands. Assumes nothing.
+-- Beam grouping, where it stands.
 use borrow.Author.Needs.{needs}
 use Rattle.format.proofs.Rules.{reading}
 use Rattle.header.specs.Header.{beams}

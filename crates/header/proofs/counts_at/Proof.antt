@@ -1,4 +1,4 @@
--- Two counts, and then the tests. Assumes nothing.
+-- Two counts, and then the tests.
 use borrow.Author.Needs.{needs}
 use Rattle.format.proofs.Rules.{reading}
 use Rattle.header.specs.Header.{notEmpty, noCounts, counts}

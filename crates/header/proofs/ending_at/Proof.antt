@@ -1,4 +1,4 @@
--- The ending byte, where it stands. Assumes nothing.
+-- The ending byte, where it stands.
 use borrow.Author.Needs.{needs}
 use Rattle.format.proofs.Rules.{reading}
 use Rattle.header.specs.Header.{endingByte}

@@ -1,4 +1,4 @@
--- By the test. Assumes nothing.
+-- By the test.
 use borrow.Author.Needs.{needs}
 use borrow.Author.Tests.{le-leb, lt-leb}
 use Rattle.header.specs.Header.{endingNumber}

@@ -1,4 +1,4 @@
--- By the test; there are at most eight trailing zeros. Assumes nothing.
+-- By the test; there are at most eight trailing zeros.
 use native.Mathlib.Omega.{arith}
 use borrow.Author.Tests.{eq-eqb, ne-eqb}
 use lib.Count.{trailing-le}

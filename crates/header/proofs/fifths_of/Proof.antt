@@ -1,4 +1,4 @@
--- By the tests. Assumes nothing.
+-- By the tests.
 use borrow.Author.Needs.{needs}
 use borrow.Author.Needs.{sfits-of}
 use native.Mathlib.Omega.{arith}

@@ -1,4 +1,4 @@
--- By definition. Assumes nothing.
+-- By definition.
 use mathlib.Core.Path.{refl}
 use Rattle.format.specs.Prog.{has}
 use Rattle.header.proofs.has.Statement.{statement}

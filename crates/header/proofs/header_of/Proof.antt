@@ -1,4 +1,4 @@
--- Each part by its function. Assumes nothing.
+-- Each part by its function.
 use borrow.Author.Needs.{needs}
 use Rattle.header.specs.Header.{headerOf}
 use Rattle.header.proofs.header_of.Statement.{statement}

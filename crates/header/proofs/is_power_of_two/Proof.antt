@@ -1,4 +1,4 @@
--- By definition. Assumes nothing.
+-- By definition.
 use mathlib.Core.Path.{refl}
 use Rattle.header.specs.Header.{powerOfTwo}
 use Rattle.header.proofs.is_power_of_two.Statement.{statement}

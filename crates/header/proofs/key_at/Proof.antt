@@ -1,4 +1,4 @@
--- The key, where it stands. Assumes nothing.
+-- The key, where it stands.
 use borrow.Author.Needs.{needs}
 use borrow.Author.Needs.{sfits-of}
 use mir.Syntax.{w8}

@@ -1,4 +1,4 @@
--- The marker, where it stands. Assumes nothing.
+-- The marker, where it stands.
 use borrow.Author.Needs.{needs}
 use Rattle.format.proofs.Rules.{reading}
 use Rattle.format.proofs.Text.{none-in}

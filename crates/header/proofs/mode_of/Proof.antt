@@ -1,4 +1,4 @@
--- By the test. Assumes nothing.
+-- By the test.
 use borrow.Author.Tests.{eq-eqb, ne-eqb}
 use Rattle.header.specs.Header.{modeOf}
 use Rattle.header.proofs.mode_of.Statement.{statement}

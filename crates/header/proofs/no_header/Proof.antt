@@ -1,4 +1,4 @@
--- By definition. Assumes nothing.
+-- By definition.
 use mathlib.Core.Path.{refl}
 use Rattle.header.specs.Header.{noHeader, commonTime}
 use Rattle.header.proofs.no_header.Statement.{statement}

@@ -1,4 +1,4 @@
--- Two bytes, where they stand. Assumes nothing.
+-- Two bytes, where they stand.
 use borrow.Author.Needs.{needs}
 use Rattle.format.proofs.Rules.{reading}
 use Rattle.header.specs.Header.{time}

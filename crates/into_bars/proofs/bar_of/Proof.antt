@@ -1,4 +1,4 @@
--- Field by field. Assumes nothing.
+-- Field by field.
 use borrow.Author.Needs.{needs}
 use Rattle.score.specs.Bars.{barOf}
 use Rattle.into_bars.proofs.bar_of.Statement.{statement}

@@ -1,4 +1,4 @@
--- Sign by sign. Assumes nothing.
+-- Sign by sign.
 use borrow.Author.Needs.{needs}
 use Rattle.score.specs.Bars.{directionAt}
 use Rattle.into_bars.proofs.direction_at.Statement.{statement}

@@ -1,4 +1,4 @@
--- By the sign. Assumes nothing.
+-- By the sign.
 use borrow.Author.Needs.{needs}
 use Prim.Native.Nat.{zero-le}
 use mathlib.Core.Path.{_≡_}

@@ -1,4 +1,4 @@
--- The word of the place. Assumes nothing.
+-- The word of the place.
 use borrow.Author.Needs.{needs}
 use mathlib.Core.Path.{_∙_}
 use Rattle.words.specs.Words.{goOnWords}

@@ -1,4 +1,4 @@
--- One after another. Assumes nothing.
+-- One after another.
 use Rattle.score.specs.Losses.{headerLosses}
 use Rattle.words.proofs.Reports.{reports-append}
 use borrow.Author.Needs.{needs}

@@ -1,4 +1,4 @@
--- By its two words. Assumes nothing.
+-- By its two words.
 use borrow.Author.Needs.{needs}
 use Rattle.words.specs.Words.{keyWords}
 use Rattle.into_bars.proofs.key_at.Statement.{statement}

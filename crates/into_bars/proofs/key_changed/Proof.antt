@@ -1,4 +1,4 @@
--- Test by test. Assumes nothing.
+-- Test by test.
 use borrow.Author.Needs.{needs}
 use Rattle.score.specs.Bars.{keyChanged}
 use Rattle.into_bars.proofs.key_changed.Statement.{statement}

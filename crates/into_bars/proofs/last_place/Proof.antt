@@ -1,4 +1,4 @@
--- By the two tests. Assumes nothing.
+-- By the two tests.
 use borrow.Author.Tests.{eq-eqb, ne-eqb}
 use Rattle.into_bars.proofs.last_place.Statement.{statement}
 use Rattle.into_bars.proofs.last_place.Tie as tie

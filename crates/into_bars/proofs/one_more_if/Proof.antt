@@ -1,4 +1,4 @@
--- By the test. Assumes nothing.
+-- By the test.
 use borrow.Author.Needs.{needs}
 use Rattle.into_bars.proofs.one_more_if.Statement.{statement}
 use Rattle.into_bars.proofs.one_more_if.Tie as tie

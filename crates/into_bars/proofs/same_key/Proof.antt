@@ -1,4 +1,4 @@
--- Word by word. Assumes nothing.
+-- Word by word.
 use borrow.Author.Needs.{needs}
 use Rattle.into_bars.proofs.same_key.Statement.{statement}
 use Rattle.into_bars.proofs.same_key.Tie as tie

@@ -1,4 +1,4 @@
--- A word that is not 0 stays. Assumes nothing.
+-- A word that is not 0 stays.
 use borrow.Author.Needs.{needs}
 use native.Mathlib.Omega.{arith}
 use mathlib.Core.Path.{sym, _∙_}

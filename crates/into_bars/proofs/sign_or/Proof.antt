@@ -1,4 +1,4 @@
--- By the test. Assumes nothing.
+-- By the test.
 use borrow.Author.Needs.{needs}
 use Rattle.into_bars.proofs.sign_or.Statement.{statement}
 use Rattle.into_bars.proofs.sign_or.Tie as tie

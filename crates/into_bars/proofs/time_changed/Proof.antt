@@ -1,4 +1,4 @@
--- Test by test. Assumes nothing.
+-- Test by test.
 use mathlib.Core.Path.{refl}
 use Rattle.score.specs.Bars.{timeChanged}
 use Rattle.into_bars.proofs.time_changed.Statement.{statement}

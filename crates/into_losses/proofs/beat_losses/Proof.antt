@@ -1,4 +1,4 @@
--- A beat that is kept, or not. Assumes nothing.
+-- A beat that is kept, or not.
 use mathlib.Core.Path.{sym, _∙_}
 use Rattle.beat.specs.Words.{beatIn}
 use Rattle.draft.specs.Chord.{chordIn}

@@ -1,4 +1,4 @@
--- One after another. Assumes nothing.
+-- One after another.
 use Rattle.score.specs.Losses.{buildingLosses}
 use Rattle.words.proofs.Reports.{reports-append}
 use Rattle.into_losses.proofs.Counting.{chord-rest}

@@ -1,4 +1,4 @@
--- One more or not. Assumes nothing.
+-- One more or not.
 use borrow.Author.Needs.{needs}
 use Rattle.into_losses.proofs.counted_if.Statement.{statement}
 use Rattle.into_losses.proofs.counted_if.Tie as tie

@@ -1,4 +1,4 @@
--- One report or none. Assumes nothing.
+-- One report or none.
 use native.Mathlib.Omega.{arith}
 use Rattle.into_losses.proofs.Counting.{numbered, reported-if}
 use borrow.Author.Needs.{needs}

@@ -1,4 +1,4 @@
--- By its effects and its fingers. Assumes nothing.
+-- By its effects and its fingers.
 use borrow.Author.Needs.{needs}
 use Rattle.into_losses.proofs.Counting.{no-losses}
 use Rattle.into_losses.proofs.lossless.Statement.{statement}

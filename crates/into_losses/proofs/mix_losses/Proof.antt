@@ -1,4 +1,4 @@
--- One after another. Assumes nothing.
+-- One after another.
 use Rattle.words.proofs.Reports.{reports-append}
 use borrow.Author.Needs.{needs}
 use Rattle.into_losses.proofs.mix_losses.Statement.{statement}

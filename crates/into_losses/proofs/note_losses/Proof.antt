@@ -1,4 +1,4 @@
--- None, or one after another. Assumes nothing.
+-- None, or one after another.
 use Rattle.words.proofs.Reports.{reports-none, reports-append}
 use borrow.Author.Needs.{needs}
 use Rattle.into_losses.proofs.note_losses.Statement.{statement}

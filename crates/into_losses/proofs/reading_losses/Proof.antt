@@ -1,4 +1,4 @@
--- One after another. Assumes nothing.
+-- One after another.
 use Rattle.format.specs.Prog.{has}
 use Rattle.score.specs.Losses.{readingLosses}
 use Rattle.words.proofs.Reports.{reports-append}

@@ -1,4 +1,4 @@
--- One sign after another. Assumes nothing.
+-- One sign after another.
 use Rattle.words.proofs.Reports.{reports-none, reports-append}
 use Rattle.into_losses.proofs.Counting.{sign-next}
 use borrow.Author.Needs.{needs}

@@ -1,4 +1,4 @@
--- One report or none. Assumes nothing.
+-- One report or none.
 use Rattle.score.specs.Losses.{trackLosses}
 use borrow.Author.Needs.{needs}
 use Rattle.into_tracks.proofs.track_losses.Statement.{statement}

@@ -1,7 +1,7 @@
 -- A walk of the MIR, by hand: examples/got/proofs/clear for the store of a whole value behind a `&mut`, examples/percent/proofs/via for
 -- the call. The borrow is opened, the memory that stands there is copied and handed to `with_fret`, what comes back is stored, and the
 -- borrow is closed at it. `_5` is the copy, `_4` what comes back.
--- Assumes nothing.
+--
 use mathlib.Core.Path.{_≡_, refl}
 use Prim.Native.Nat.{ℕ, _<_, _^_}
 use mathlib.Core.List.{[], _∷_, List}

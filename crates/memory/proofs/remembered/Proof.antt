@@ -1,6 +1,6 @@
 -- A walk of the MIR, by hand: logic/Denote/Examples/Twice.antt for the call, logic/Denote/Lend.antt for the loan. The local `_4` is lent
 -- for a lifetime of the call; when that has ended it is back, at the last value that `remember` says.
--- Assumes nothing.
+--
 use mathlib.Core.Path.{_≡_, refl, sym, ap, subst}
 use Prim.Native.Nat.{ℕ, _<_, _^_}
 use mathlib.Core.List.{[], _∷_, List}

@@ -1,4 +1,4 @@
--- On a string that is remembered the array is set there; past the seventh a set changes nothing. Assumes nothing.
+-- On a string that is remembered the array is set there; past the seventh a set changes nothing.
 use native.Mathlib.Omega.{arith}
 use mathlib.Core.Path.{_≡_, sym}
 use lib.ListN.{length}

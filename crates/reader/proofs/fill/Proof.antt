@@ -1,4 +1,4 @@
--- A pass, then the answer. Assumes nothing.
+-- A pass, then the answer.
 use borrow.Author.Needs.{needs}
 use native.Mathlib.Omega.{arith}
 use Rattle.format.proofs.Run.{clash}

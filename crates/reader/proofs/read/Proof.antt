@@ -1,4 +1,4 @@
--- By how the first pass ends, and by the room. Assumes nothing.
+-- By how the first pass ends, and by the room.
 use borrow.Author.Needs.{needs}
 use Rattle.format.proofs.Rules.{said-no, said-yes}
 use Rattle.refine.proofs.Returns.{known-bytes}

@@ -1,4 +1,4 @@
--- By the length. Assumes nothing.
+-- By the length.
 use native.Mathlib.Omega.{arith}
 use mathlib.Core.Path.{refl, sym}
 use lib.Seq.{length-take-le}

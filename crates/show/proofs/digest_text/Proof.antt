@@ -1,4 +1,4 @@
--- The loop ends with the text. Assumes nothing.
+-- The loop ends with the text.
 use Prim.Native.Nat.{_≤_, _-_}
 use lib.ListN.{length}
 use native.Mathlib.Omega.{arith}

@@ -1,4 +1,4 @@
--- The loop ends with the last entry. Assumes nothing.
+-- The loop ends with the last entry.
 use Prim.Native.Nat.{_≤_, _-_}
 use borrow.Author.Needs.{needs}
 use Rattle.show.proofs.entries.Statement.{statement}

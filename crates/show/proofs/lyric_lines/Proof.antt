@@ -1,4 +1,4 @@
--- The loop ends with the fifth line. Assumes nothing.
+-- The loop ends with the fifth line.
 use Prim.Native.Nat.{_≤_, _-_}
 use borrow.Author.Needs.{needs}
 use Rattle.show.proofs.lyric_lines.Statement.{statement}

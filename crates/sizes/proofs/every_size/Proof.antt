@@ -1,4 +1,4 @@
--- The loop ends with the table of no words. Assumes nothing.
+-- The loop ends with the table of no words.
 use borrow.Author.Needs.{needs}
 use Rattle.sizes.proofs.every_size.Statement.{statement}
 use Rattle.sizes.proofs.every_size.Tie as tie

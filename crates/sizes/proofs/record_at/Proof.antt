@@ -1,4 +1,4 @@
--- The loop ends with the last word. Assumes nothing.
+-- The loop ends with the last word.
 use Prim.Native.Nat.{_≤_, _-_}
 use borrow.Author.Needs.{needs}
 use Rattle.sizes.proofs.record_at.Statement.{statement}

@@ -1,4 +1,4 @@
--- The words of an entry, stored where the entry starts. Assumes nothing.
+-- The words of an entry, stored where the entry starts.
 use lib.Seq.{set-out}
 use mathlib.Core.Path.{sym}
 use Rattle.tables.proofs.Starts.{starts, past}

@@ -1,4 +1,4 @@
--- By the room that there is. Assumes nothing.
+-- By the room that there is.
 use mathlib.Core.Path.{sym}
 use Rattle.tables.proofs.Laws.{sets-out}
 use borrow.Author.Needs.{needs}

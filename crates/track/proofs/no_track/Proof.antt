@@ -1,4 +1,4 @@
--- By definition. Assumes nothing.
+-- By definition.
 use mathlib.Core.Path.{refl}
 use Rattle.track.specs.Track.{noTrack, noStrings, noTunings}
 use Rattle.track.proofs.no_track.Statement.{statement}

@@ -1,4 +1,4 @@
--- By the test. Assumes nothing.
+-- By the test.
 use borrow.Author.Needs.{needs}
 use native.Mathlib.Omega.{arith}
 use Rattle.track.specs.Track.{numbered}

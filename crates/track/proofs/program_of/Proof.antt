@@ -1,4 +1,4 @@
--- By the test. Assumes nothing.
+-- By the test.
 use borrow.Author.Needs.{needs}
 use Rattle.track.specs.Track.{channelProgram}
 use Rattle.track.proofs.program_of.Statement.{statement}

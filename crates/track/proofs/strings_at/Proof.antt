@@ -1,4 +1,4 @@
--- A count, its tunings and the rest. Assumes nothing.
+-- A count, its tunings and the rest.
 use borrow.Author.Needs.{needs}
 use native.Mathlib.Omega.{arith}
 use Rattle.format.proofs.Rules.{reading}

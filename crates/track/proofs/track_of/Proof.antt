@@ -1,4 +1,4 @@
--- Each part by its function. Assumes nothing.
+-- Each part by its function.
 use borrow.Author.Needs.{needs}
 use Rattle.track.specs.Track.{trackOf}
 use Rattle.track.proofs.track_of.Statement.{statement}

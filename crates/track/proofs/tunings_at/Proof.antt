@@ -1,4 +1,4 @@
--- What is left of the tunings. Assumes nothing.
+-- What is left of the tunings.
 use borrow.Author.Needs.{needs}
 use Prim.Native.Nat.{_≤_, _-_}
 use mathlib.Core.Path.{_≡_}

@@ -1,4 +1,4 @@
--- Every bar, the losses lent meanwhile. Assumes nothing.
+-- Every bar, the losses lent meanwhile.
 use borrow.Author.Needs.{needs}
 use Rattle.walk.proofs.Walks.{walked}
 use Rattle.walk.proofs.all_bars.Statement.{statement}

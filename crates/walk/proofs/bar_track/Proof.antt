@@ -1,4 +1,4 @@
--- A number of voices, then the voices. Assumes nothing.
+-- A number of voices, then the voices.
 use borrow.Author.Needs.{needs}
 use Rattle.format.proofs.Rules.{then}
 use Rattle.score.specs.File.{barTrack}

@@ -1,4 +1,4 @@
--- Beat by beat. Assumes nothing.
+-- Beat by beat.
 use borrow.Author.Needs.{needs}
 use Prim.Native.Nat.{_-_, _≤_}
 use native.Mathlib.Omega.{arith}

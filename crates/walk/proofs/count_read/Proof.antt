@@ -1,4 +1,4 @@
--- A beat is read, then counted. Assumes nothing.
+-- A beat is read, then counted.
 use borrow.Author.Needs.{needs}
 use Rattle.walk.proofs.Walks.{counts-beat, counts-none}
 use Rattle.walk.proofs.count_read.Statement.{statement}

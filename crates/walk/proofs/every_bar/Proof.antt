@@ -1,4 +1,4 @@
--- Bar by bar. Assumes nothing.
+-- Bar by bar.
 use borrow.Author.Needs.{needs}
 use Prim.Native.Nat.{_-_, _≤_}
 use native.Mathlib.Omega.{arith}

@@ -1,4 +1,4 @@
--- The bar is entered, then its tracks. Assumes nothing.
+-- The bar is entered, then its tracks.
 use borrow.Author.Needs.{needs}
 use Rattle.walk.proofs.Walks.{entered}
 use Rattle.walk.proofs.one_bar.Statement.{statement}

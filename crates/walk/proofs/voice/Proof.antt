@@ -1,4 +1,4 @@
--- A count of beats, then the beats, counted or added. Assumes nothing.
+-- A count of beats, then the beats, counted or added.
 use borrow.Author.Needs.{needs}
 use Rattle.format.proofs.Rules.{then}
 use Rattle.score.specs.File.{voice}

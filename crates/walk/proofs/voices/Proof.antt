@@ -1,4 +1,4 @@
--- Voice by voice. Assumes nothing.
+-- Voice by voice.
 use borrow.Author.Needs.{needs}
 use Prim.Native.Nat.{_-_, _≤_}
 use native.Mathlib.Omega.{arith}

@@ -1,4 +1,4 @@
--- By the version. Assumes nothing.
+-- By the version.
 use borrow.Author.Needs.{needs}
 use Rattle.format.proofs.Rules.{reading}
 use Rattle.score.specs.File.{voices}

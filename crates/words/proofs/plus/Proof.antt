@@ -1,4 +1,4 @@
--- A sum that fits, or the largest word. Assumes nothing.
+-- A sum that fits, or the largest word.
 use Prim.Native.Nat.{_+_}
 use borrow.Author.Tests.{le-leb, lt-leb}
 use native.Mathlib.Omega.{arith}

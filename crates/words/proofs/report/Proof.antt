@@ -1,4 +1,4 @@
--- One more, as far as a word goes. Assumes nothing.
+-- One more, as far as a word goes.
 use mathlib.Core.Path.{_∙_}
 use lib.ListN.{getD}
 use Rattle.model.specs.Answers.{lossNumber}

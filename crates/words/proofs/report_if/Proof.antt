@@ -1,4 +1,4 @@
--- One report or none. Assumes nothing.
+-- One report or none.
 use Rattle.words.proofs.Reports.{reports-none}
 use borrow.Author.Needs.{needs}
 use Rattle.words.proofs.report_if.Statement.{statement}

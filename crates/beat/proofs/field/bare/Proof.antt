@@ -1,4 +1,4 @@
--- By its words. Assumes nothing.
+-- By its words.
 use borrow.Author.Needs.{needs}
 use Rattle.beat.specs.Words.{bareIn}
 use Rattle.beat.proofs.field.bare.Statement.{statement}

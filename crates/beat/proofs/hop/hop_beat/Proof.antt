@@ -1,4 +1,4 @@
--- Its flags, its notes, and its tail. Assumes nothing.
+-- Its flags, its notes, and its tail.
 use borrow.Author.Needs.{needs}
 use native.Mathlib.Omega.{arith}
 use Rattle.beat.proofs.Hops.{hop-stopped, hop-short, hop-marked, hop-notes-not, hop-to}

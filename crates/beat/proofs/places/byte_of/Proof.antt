@@ -1,4 +1,4 @@
--- By its definition. Assumes nothing.
+-- By its definition.
 use borrow.Author.Needs.{needs}
 use Rattle.note.specs.Words.{byteIn}
 use Rattle.beat.proofs.places.byte_of.Statement.{statement}

@@ -1,4 +1,4 @@
--- By its definition. Assumes nothing.
+-- By its definition.
 use borrow.Author.Needs.{needs}
 use Rattle.beat.specs.Words.{numberIn}
 use Rattle.beat.proofs.places.number_of.Statement.{statement}

@@ -1,4 +1,4 @@
--- Given or not. Assumes nothing.
+-- Given or not.
 use borrow.Author.Needs.{needs}
 use native.Mathlib.Omega.{arith}
 use Rattle.format.proofs.Padded.{here, pad-skip}

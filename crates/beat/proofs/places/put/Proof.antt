@@ -1,4 +1,4 @@
--- A byte is stored. Assumes nothing.
+-- A byte is stored.
 use borrow.Author.Needs.{needs}
 use Rattle.note.proofs.Stores.{byte-stored}
 use Rattle.beat.proofs.places.put.Statement.{statement}

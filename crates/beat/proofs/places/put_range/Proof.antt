@@ -1,4 +1,4 @@
--- Its two words. Assumes nothing.
+-- Its two words.
 use borrow.Author.Needs.{needs}
 use Rattle.beat.proofs.Filled.{range-stored}
 use Rattle.beat.proofs.places.put_range.Statement.{statement}

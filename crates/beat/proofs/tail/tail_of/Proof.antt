@@ -1,4 +1,4 @@
--- By the version. Assumes nothing.
+-- By the version.
 use borrow.Author.Needs.{needs}
 use native.Mathlib.Omega.{arith}
 use Rattle.format.specs.Prog.{has}

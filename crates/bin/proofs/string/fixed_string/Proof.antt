@@ -1,4 +1,4 @@
--- The stated length, then the rest of the field. Assumes nothing.
+-- The stated length, then the rest of the field.
 use borrow.Author.Needs.{needs}
 use Rattle.format.proofs.Rules.{reading}
 use Rattle.format.proofs.Text.{none-in}

@@ -1,4 +1,4 @@
--- The seven bytes that are trimmed. Assumes nothing.
+-- The seven bytes that are trimmed.
 use borrow.Author.Tests.{le-leb, lt-leb, eq-eqb, ne-eqb}
 use Rattle.format.specs.Text.{blank}
 use Rattle.bin.proofs.string.is_blank.Statement.{statement}

@@ -1,4 +1,4 @@
--- Without the blanks at its end the text is as long as it was. Assumes nothing.
+-- Without the blanks at its end the text is as long as it was.
 use borrow.Author.Needs.{needs}
 use native.Mathlib.Omega.{arith}
 use Prim.Native.Nat.{_≤_}

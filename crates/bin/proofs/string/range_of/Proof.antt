@@ -1,4 +1,4 @@
--- An empty text has no place. Assumes nothing.
+-- An empty text has no place.
 use borrow.Author.Needs.{needs}
 use native.Mathlib.Omega.{arith}
 use Rattle.format.proofs.Text.{range-none, range-some}

@@ -1,4 +1,4 @@
--- The test of a length, then the text. Assumes nothing.
+-- The test of a length, then the text.
 use borrow.Author.Needs.{needs}
 use Rattle.format.proofs.Rules.{reading}
 use Rattle.format.proofs.Text.{none-in}

@@ -1,4 +1,4 @@
--- The test of a length, then its bytes. Assumes nothing.
+-- The test of a length, then its bytes.
 use borrow.Author.Needs.{needs}
 use Rattle.format.proofs.Rules.{reading}
 use Rattle.format.specs.Fields.{stringPast}

@@ -1,4 +1,4 @@
--- The three ends of a text, and the text between them. Assumes nothing.
+-- The three ends of a text, and the text between them.
 use borrow.Author.Needs.{needs}
 use native.Mathlib.Omega.{arith}
 use Rattle.format.proofs.Text.{words-goes, words-ends, text-still}

@@ -1,4 +1,4 @@
--- `held_to` meets its contract: each return by the tests that led there. Assumes nothing.
+-- `held_to` meets its contract: each return by the tests that led there.
 use native.Mathlib.Omega.{arith}
 use borrow.Author.Tests.{le-ltb, lt-ltb}
 use Rattle.curve.specs.Held.{held}

@@ -1,4 +1,4 @@
--- By the test. Assumes nothing.
+-- By the test.
 use borrow.Author.Tests.{eq-eqb, ne-eqb}
 use Rattle.draft.proofs.graces.grace_text.Statement.{statement}
 use Rattle.draft.proofs.graces.grace_text.Tie as tie

@@ -1,4 +1,4 @@
--- Field by field. Assumes nothing.
+-- Field by field.
 use borrow.Author.Needs.{needs}
 use Rattle.draft.specs.Steps.{gracedBy}
 use Rattle.draft.proofs.graces.graced_by.Statement.{statement}

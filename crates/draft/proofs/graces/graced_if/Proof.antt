@@ -1,4 +1,4 @@
--- By its case. Assumes nothing.
+-- By its case.
 use borrow.Author.Needs.{needs}
 use Rattle.draft.proofs.graces.graced_if.Statement.{statement}
 use Rattle.draft.proofs.graces.graced_if.Tie as tie

@@ -1,4 +1,4 @@
--- By the beat's two flags. Assumes nothing.
+-- By the beat's two flags.
 use borrow.Author.Needs.{needs}
 use Rattle.draft.proofs.marks.beat_harmonic.Statement.{statement}
 use Rattle.draft.proofs.marks.beat_harmonic.Tie as tie

@@ -1,4 +1,4 @@
--- By the note, then by the beat. Assumes nothing.
+-- By the note, then by the beat.
 use borrow.Author.Needs.{needs}
 use Rattle.draft.proofs.marks.harmonic.Statement.{statement}
 use Rattle.draft.proofs.marks.harmonic.Tie as tie

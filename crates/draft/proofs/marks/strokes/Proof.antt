@@ -1,4 +1,4 @@
--- By the two tests. Assumes nothing.
+-- By the two tests.
 use borrow.Author.Tests.{eq-eqb, ne-eqb}
 use Rattle.draft.proofs.marks.strokes.Statement.{statement}
 use Rattle.draft.proofs.marks.strokes.Tie as tie

@@ -1,4 +1,4 @@
--- By the stroke. Assumes nothing.
+-- By the stroke.
 use borrow.Author.Needs.{needs}
 use Rattle.draft.specs.Steps.{addMarks}
 use Rattle.draft.proofs.marks.with_bow.Statement.{statement}

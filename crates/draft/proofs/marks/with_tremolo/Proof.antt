@@ -1,4 +1,4 @@
--- By its case. Assumes nothing.
+-- By its case.
 use borrow.Author.Needs.{needs}
 use Rattle.draft.specs.Steps.{addMarks}
 use Rattle.draft.proofs.marks.with_tremolo.Statement.{statement}

@@ -1,4 +1,4 @@
--- Field by field. Assumes nothing.
+-- Field by field.
 use borrow.Author.Needs.{needs}
 use Rattle.score.specs.Members.{graceMember}
 use Rattle.draft.proofs.member.grace_member.Statement.{statement}

@@ -1,4 +1,4 @@
--- Field by field. Assumes nothing.
+-- Field by field.
 use borrow.Author.Needs.{needs}
 use Rattle.score.specs.Members.{memberOf}
 use Rattle.draft.proofs.member.member_of.Statement.{statement}

@@ -1,4 +1,4 @@
--- Five fingers have a number. Assumes nothing.
+-- Five fingers have a number.
 use borrow.Author.Needs.{needs}
 use native.Mathlib.Omega.{arith}
 use mathlib.Core.Path.{sym}

@@ -1,4 +1,4 @@
--- On tablature, by the string's number. Assumes nothing.
+-- On tablature, by the string's number.
 use borrow.Author.Needs.{needs}
 use Rattle.draft.proofs.member.position_of.Statement.{statement}
 use Rattle.draft.proofs.member.position_of.Tie as tie

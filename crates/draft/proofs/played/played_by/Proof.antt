@@ -1,4 +1,4 @@
--- Effect by effect. Assumes nothing.
+-- Effect by effect.
 use borrow.Author.Needs.{needs}
 use Rattle.note.specs.Words.{start, noteIn}
 use Rattle.draft.proofs.Steps.{played-in-turn}

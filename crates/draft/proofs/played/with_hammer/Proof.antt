@@ -1,4 +1,4 @@
--- By the test. Assumes nothing.
+-- By the test.
 use borrow.Author.Needs.{needs}
 use Rattle.draft.proofs.played.with_hammer.Statement.{statement}
 use Rattle.draft.proofs.played.with_hammer.Tie as tie

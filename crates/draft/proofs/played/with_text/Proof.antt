@@ -1,4 +1,4 @@
--- By the two tests. Assumes nothing.
+-- By the two tests.
 use borrow.Author.Needs.{needs}
 use Rattle.draft.proofs.played.with_text.Statement.{statement}
 use Rattle.draft.proofs.played.with_text.Tie as tie

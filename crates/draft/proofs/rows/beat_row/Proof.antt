@@ -1,4 +1,4 @@
--- By the number of notes. Assumes nothing.
+-- By the number of notes.
 use borrow.Author.Needs.{needs}
 use Rattle.beat.specs.Words.{beatIn}
 use Rattle.draft.proofs.Walks.{row-rest, row-chord}

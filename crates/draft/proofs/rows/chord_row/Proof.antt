@@ -1,4 +1,4 @@
--- Field by field. Assumes nothing.
+-- Field by field.
 use borrow.Author.Needs.{needs}
 use Rattle.score.specs.Rows.{chordRow}
 use Rattle.draft.proofs.Steps.{marks-counted}

@@ -1,4 +1,4 @@
--- Field by field. Assumes nothing.
+-- Field by field.
 use borrow.Author.Needs.{needs}
 use Rattle.draft.specs.Steps.{graceDraft}
 use Rattle.draft.proofs.rows.grace_row.Statement.{statement}

@@ -1,4 +1,4 @@
--- By the levels of its notes. Assumes nothing.
+-- By the levels of its notes.
 use borrow.Author.Needs.{needs}
 use mathlib.Core.Path.{_∙_}
 use Rattle.draft.proofs.rows.level_of.Statement.{statement}

@@ -1,4 +1,4 @@
--- Field by field. Assumes nothing.
+-- Field by field.
 use borrow.Author.Needs.{needs}
 use Rattle.curve.specs.Bend.{finish}
 use Rattle.note.specs.Points.{pointsAt}

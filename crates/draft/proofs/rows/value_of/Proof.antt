@@ -1,4 +1,4 @@
--- By its fields. Assumes nothing.
+-- By its fields.
 use borrow.Author.Needs.{needs}
 use Rattle.format.specs.Prog.{has}
 use Rattle.draft.proofs.rows.value_of.Statement.{statement}

@@ -1,4 +1,4 @@
--- Note by note, from the last back. Assumes nothing.
+-- Note by note, from the last back.
 use borrow.Author.Needs.{needs}
 use native.Mathlib.Omega.{arith}
 use Prim.Native.Nat.{ℕ, _+_, _-_, _≤_}

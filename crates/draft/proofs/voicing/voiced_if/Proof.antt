@@ -1,4 +1,4 @@
--- By what the notes and the beat have. Assumes nothing.
+-- By what the notes and the beat have.
 use borrow.Author.Needs.{needs}
 use mathlib.Core.Path.{_≡_, sym}
 use mathlib.Core.Bool.{false}

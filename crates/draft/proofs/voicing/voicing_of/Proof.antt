@@ -1,4 +1,4 @@
--- By its notes, then by the beat. Assumes nothing.
+-- By its notes, then by the beat.
 use borrow.Author.Needs.{needs}
 use Rattle.draft.proofs.voicing.voicing_of.Statement.{statement}
 use Rattle.draft.proofs.voicing.voicing_of.Tie as tie

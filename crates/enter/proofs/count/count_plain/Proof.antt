@@ -1,4 +1,4 @@
--- A row, and the strings that sound. Assumes nothing.
+-- A row, and the strings that sound.
 use native.Mathlib.Omega.{arith}
 use borrow.Author.Needs.{needs}
 use Rattle.enter.proofs.Counts.{counted-plain}

@@ -1,4 +1,4 @@
--- String by string. Assumes nothing.
+-- String by string.
 use Prim.Native.Nat.{ℕ, _+_, _≤_, _<_}
 use mathlib.Core.Path.{_≡_, refl, sym, _∙_}
 use mathlib.Core.List.{List}

@@ -1,4 +1,4 @@
--- By whether the beat is kept. Assumes nothing.
+-- By whether the beat is kept.
 use borrow.Author.Needs.{needs}
 use mathlib.Core.Path.{sym}
 use Rattle.enter.proofs.count.kept_of.Statement.{statement}

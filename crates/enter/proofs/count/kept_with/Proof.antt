@@ -1,4 +1,4 @@
--- Table by table. Assumes nothing.
+-- Table by table.
 use borrow.Author.Needs.{needs}
 use Rattle.enter.proofs.count.kept_with.Statement.{statement}
 use Rattle.enter.proofs.count.kept_with.Tie as tie

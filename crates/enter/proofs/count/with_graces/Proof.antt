@@ -1,4 +1,4 @@
--- Graces, or none. Assumes nothing.
+-- Graces, or none.
 use borrow.Author.Tests.{eq-eqb, ne-eqb}
 use borrow.Author.Needs.{needs}
 use Rattle.enter.proofs.count.with_graces.Statement.{statement}

@@ -1,4 +1,4 @@
--- An entry that the table holds whole, or none. Assumes nothing.
+-- An entry that the table holds whole, or none.
 use borrow.Author.Tests.{eq-eqb, ne-eqb}
 use Rattle.entries.specs.Words.{barAt}
 use borrow.Author.Needs.{needs}

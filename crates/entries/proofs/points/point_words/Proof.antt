@@ -1,4 +1,4 @@
--- The words, one by one. Assumes nothing.
+-- The words, one by one.
 use Rattle.entries.specs.Words.{pointWords}
 use borrow.Author.Needs.{needs}
 use Rattle.entries.proofs.points.point_words.Statement.{statement}

@@ -1,4 +1,4 @@
--- The words of an entry, stored where the entry starts. Assumes nothing.
+-- The words of an entry, stored where the entry starts.
 use mathlib.Core.Path.{_∙_}
 use Rattle.entries.proofs.Stored.{row-stored}
 use borrow.Author.Needs.{needs}

@@ -1,4 +1,4 @@
--- From the last back. Assumes nothing.
+-- From the last back.
 use borrow.Author.Needs.{needs}
 use mathlib.Core.Path.{_≡_, refl}
 use native.Mathlib.Omega.{arith}

@@ -1,4 +1,4 @@
--- Word by word. Assumes nothing.
+-- Word by word.
 use borrow.Author.Needs.{needs}
 use native.Mathlib.Nat.{add-zero}
 use Rattle.into_bars.proofs.texts.in_bar.Statement.{statement}

@@ -1,4 +1,4 @@
--- By whether it is entered. Assumes nothing.
+-- By whether it is entered.
 use borrow.Author.Needs.{needs}
 use mathlib.Core.Path.{_∙_}
 use Rattle.into_bars.proofs.texts.keep_text.Statement.{statement}

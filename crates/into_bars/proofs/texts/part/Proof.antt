@@ -1,4 +1,4 @@
--- As far as the file goes. Assumes nothing.
+-- As far as the file goes.
 use borrow.Author.Needs.{needs}
 use native.Mathlib.Omega.{arith}
 use mathlib.Core.Path.{_∙_}

@@ -1,4 +1,4 @@
--- Of the two parts. Assumes nothing.
+-- Of the two parts.
 use borrow.Author.Needs.{needs}
 use mathlib.Core.Path.{_∙_}
 use Rattle.into_bars.proofs.texts.same_at.Statement.{statement}

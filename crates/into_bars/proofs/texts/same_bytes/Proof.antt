@@ -1,4 +1,4 @@
--- What is left of both is the same as all of them is. Assumes nothing.
+-- What is left of both is the same as all of them is.
 use borrow.Author.Needs.{needs}
 use Prim.Native.Nat.{_-_, _≤_}
 use mathlib.Core.Path.{_≡_, refl}

@@ -1,4 +1,4 @@
--- No points, or some. Assumes nothing.
+-- No points, or some.
 use mathlib.Core.Path.{_∙_}
 use Rattle.into_losses.proofs.Sums.{no-room, room}
 use borrow.Author.Needs.{needs}

@@ -1,4 +1,4 @@
--- By its range. Assumes nothing.
+-- By its range.
 use mathlib.Core.Path.{ap}
 use mathlib.Core.Bool.{Bool, _&&_}
 use Rattle.note.specs.Words.{byteIn}

@@ -1,4 +1,4 @@
--- A beat that is kept, and its sounding notes. Assumes nothing.
+-- A beat that is kept, and its sounding notes.
 use mathlib.Core.Path.{refl, sym, _∙_}
 use borrow.Author.Tests.{not-true, not-false}
 use Rattle.into_rows.proofs.Picked.{picked, passed}

@@ -1,4 +1,4 @@
--- None, or one row. Assumes nothing.
+-- None, or one row.
 use borrow.Author.Tests.{not-true, not-false}
 use Rattle.words.specs.Words.{words}
 use Rattle.words.specs.Voices.{voiceIn}

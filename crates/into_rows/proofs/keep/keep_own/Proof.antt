@@ -1,4 +1,4 @@
--- Ties, members, then the row. Assumes nothing.
+-- Ties, members, then the row.
 use Rattle.beat.specs.Words.{beatIn}
 use Rattle.score.specs.Rows.{beatRow}
 use Rattle.draft.specs.Chord.{chordIn}

@@ -1,4 +1,4 @@
--- Table by table. Assumes nothing.
+-- Table by table.
 use Rattle.note.specs.Points.{bendIn}
 use Rattle.score.specs.Rows.{curveOf}
 use Rattle.words.specs.Voices.{voiceIn}

@@ -1,4 +1,4 @@
--- The row of graces, then the beat's own. Assumes nothing.
+-- The row of graces, then the beat's own.
 use mathlib.Core.Path.{sym}
 use lib.ListN.{take}
 use lib.Seq.{length-take-le}

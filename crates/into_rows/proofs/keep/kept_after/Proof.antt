@@ -1,4 +1,4 @@
--- Table by table. Assumes nothing.
+-- Table by table.
 use borrow.Author.Needs.{needs}
 use Rattle.into_rows.proofs.keep.kept_after.Statement.{statement}
 use Rattle.into_rows.proofs.keep.kept_after.Tie as tie

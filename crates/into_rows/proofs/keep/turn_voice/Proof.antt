@@ -1,4 +1,4 @@
--- Thing by thing. Assumes nothing.
+-- Thing by thing.
 use Rattle.words.specs.Voices.{voiceIn}
 use Rattle.into_rows.proofs.Drawing.{voice-kept}
 use borrow.Author.Needs.{needs}

@@ -1,4 +1,4 @@
--- None, or one. Assumes nothing.
+-- None, or one.
 use native.Mathlib.Omega.{arith}
 use native.Mathlib.Nat.{add-zero}
 use Rattle.into_rows.proofs.Gracing.{no-grace, the-grace, grace-stored}

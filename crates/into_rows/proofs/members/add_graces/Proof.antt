@@ -1,4 +1,4 @@
--- Note by note. Assumes nothing.
+-- Note by note.
 use native.Mathlib.Omega.{arith}
 use native.Mathlib.Nat.{add-zero}
 use Prim.Native.Nat.{ℕ, _+_, _-_, _≤_}

@@ -1,4 +1,4 @@
--- Member by member. Assumes nothing.
+-- Member by member.
 use native.Mathlib.Omega.{arith}
 use native.Mathlib.Nat.{add-zero}
 use Prim.Native.Nat.{ℕ, _+_, _-_, _≤_}

@@ -1,4 +1,4 @@
--- By the string, or by the key. Assumes nothing.
+-- By the string, or by the key.
 use mathlib.Core.Path.{sym, _∙_}
 use borrow.Author.Tests.{eq-eqb, ne-eqb}
 use borrow.Author.Needs.{needs}

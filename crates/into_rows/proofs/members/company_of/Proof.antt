@@ -1,4 +1,4 @@
--- Field by field. Assumes nothing.
+-- Field by field.
 use Rattle.into_rows.proofs.Gathering.{as-many}
 use borrow.Author.Needs.{needs}
 use Rattle.into_rows.proofs.members.company_of.Statement.{statement}

@@ -1,4 +1,4 @@
--- Note by note: the first that has a grace. Assumes nothing.
+-- Note by note: the first that has a grace.
 use native.Mathlib.Omega.{arith}
 use Prim.Native.Nat.{ℕ, _-_, _≤_}
 use mathlib.Core.List.{List}

@@ -1,4 +1,4 @@
--- By whether there is one. Assumes nothing.
+-- By whether there is one.
 use mathlib.Core.Path.{sym, _∙_}
 use Rattle.into_rows.proofs.Gathering.{no-key, the-key}
 use borrow.Author.Needs.{needs}

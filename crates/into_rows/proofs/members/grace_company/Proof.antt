@@ -1,4 +1,4 @@
--- Field by field. Assumes nothing.
+-- Field by field.
 use mathlib.Core.Path.{sym, _∙_}
 use Rattle.into_rows.proofs.Gracing.{gracesIn, as-many-graces, no-plain}
 use borrow.Author.Needs.{needs}

@@ -1,4 +1,4 @@
--- By the number of notes. Assumes nothing.
+-- By the number of notes.
 use mathlib.Core.Path.{_∙_}
 use Rattle.into_rows.proofs.Gathering.{only-finger, no-finger}
 use borrow.Author.Needs.{needs}

@@ -1,4 +1,4 @@
--- A note that ends a tie. Assumes nothing.
+-- A note that ends a tie.
 use Rattle.into_rows.proofs.Gathering.{tied-starts, untied-stays}
 use borrow.Author.Needs.{needs}
 use Rattle.into_rows.proofs.members.start_if_tied.Statement.{statement}

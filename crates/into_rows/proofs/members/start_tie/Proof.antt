@@ -1,4 +1,4 @@
--- Member by member: the first that answers, or one of those after it. Assumes nothing.
+-- Member by member: the first that answers, or one of those after it.
 use Prim.Native.Nat.{_+_}
 use native.Mathlib.Omega.{arith}
 use mathlib.Core.Path.{_≡_, refl, sym, _∙_}

@@ -1,4 +1,4 @@
--- Note by note. Assumes nothing.
+-- Note by note.
 use native.Mathlib.Omega.{arith}
 use Prim.Native.Nat.{ℕ, _-_, _≤_}
 use mathlib.Core.List.{List, []}

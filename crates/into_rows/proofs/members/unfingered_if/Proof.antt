@@ -1,4 +1,4 @@
--- An only one, or another. Assumes nothing.
+-- An only one, or another.
 use mathlib.Core.Path.{refl}
 use Rattle.into_rows.proofs.Picked.{picked}
 use borrow.Author.Needs.{needs}

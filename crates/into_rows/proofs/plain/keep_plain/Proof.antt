@@ -1,4 +1,4 @@
--- The notes that sound, and their row. Assumes nothing.
+-- The notes that sound, and their row.
 use Rattle.into_rows.proofs.Rowing.{first-notes}
 use borrow.Author.Needs.{needs}
 use Rattle.into_rows.proofs.plain.keep_plain.Statement.{statement}

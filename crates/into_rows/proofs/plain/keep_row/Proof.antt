@@ -1,4 +1,4 @@
--- Table by table. Assumes nothing.
+-- Table by table.
 use mathlib.Core.Path.{sym}
 use lib.ListN.{take}
 use lib.Seq.{length-take-le}

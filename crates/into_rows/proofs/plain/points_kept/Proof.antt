@@ -1,4 +1,4 @@
--- By the largest word. Assumes nothing.
+-- By the largest word.
 use native.Mathlib.Omega.{arith}
 use Rattle.into_rows.proofs.Straight.{none-more}
 use Rattle.into_rows.proofs.plain.points_kept.Statement.{statement}

@@ -1,4 +1,4 @@
--- By the ottava that may go on. Assumes nothing.
+-- By the ottava that may go on.
 use Rattle.into_rows.proofs.Straight.{no-run, run-over}
 use borrow.Author.Needs.{needs}
 use Rattle.into_rows.proofs.plain.run_left.Statement.{statement}

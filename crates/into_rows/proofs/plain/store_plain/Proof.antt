@@ -1,4 +1,4 @@
--- Word by word. Assumes nothing.
+-- Word by word.
 use Rattle.format.specs.Prog.{has}
 use Rattle.beat.specs.Words.{beatIn}
 use Rattle.draft.specs.Chord.{chordIn}

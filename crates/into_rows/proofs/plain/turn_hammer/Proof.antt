@@ -1,4 +1,4 @@
--- By the hammer that waits. Assumes nothing.
+-- By the hammer that waits.
 use mathlib.Core.Path.{refl, sym, _∙_}
 use Rattle.into_rows.proofs.Picked.{picked, passed}
 use Rattle.into_rows.proofs.Straight.{pulls-off}

@@ -1,4 +1,4 @@
--- No curve, or one that is gathered and entered. Assumes nothing.
+-- No curve, or one that is gathered and entered.
 use Rattle.curve.specs.Bend.{curveHeight}
 use Rattle.into_rows.proofs.Curves.{no-curve}
 use borrow.Author.Needs.{needs}

@@ -1,4 +1,4 @@
--- Point by point. Assumes nothing.
+-- Point by point.
 use Prim.Native.Nat.{_+_}
 use native.Mathlib.Omega.{arith}
 use mathlib.Core.Path.{_≡_, refl, sym, _∙_}

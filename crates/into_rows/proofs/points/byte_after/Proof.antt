@@ -1,4 +1,4 @@
--- Where the file has it. Assumes nothing.
+-- Where the file has it.
 use Prim.Native.Nat.{_+_}
 use native.Mathlib.Omega.{arith}
 use mathlib.Core.Path.{refl, sym}

@@ -1,4 +1,4 @@
--- Point by point, each put among those before it. Assumes nothing.
+-- Point by point, each put among those before it.
 use Prim.Native.Nat.{_+_, _-_}
 use native.Mathlib.Omega.{arith}
 use native.Mathlib.Nat.{add-zero}

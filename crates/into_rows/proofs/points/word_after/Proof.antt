@@ -1,4 +1,4 @@
--- Byte by byte. Assumes nothing.
+-- Byte by byte.
 use Prim.Native.Nat.{_+_}
 use native.Mathlib.Omega.{arith}
 use mathlib.Core.Path.{_≡_}

@@ -1,4 +1,4 @@
--- One look back after the other, then the entry. Assumes nothing.
+-- One look back after the other, then the entry.
 use Rattle.words.specs.Voices.{voiceIn}
 use Rattle.into_rows.proofs.Drawing.{row-added}
 use borrow.Author.Needs.{needs}

@@ -1,4 +1,4 @@
--- By the kind of the level. Assumes nothing.
+-- By the kind of the level.
 use mathlib.Core.Path.{_∙_}
 use borrow.Author.Needs.{needs}
 use Rattle.into_rows.proofs.rows.dynamic_at.Statement.{statement}

@@ -1,4 +1,4 @@
--- By the mark. Assumes nothing.
+-- By the mark.
 use mathlib.Core.Path.{refl, sym, _∙_}
 use Rattle.into_rows.proofs.Picked.{picked, passed}
 use borrow.Author.Needs.{needs}

@@ -1,4 +1,4 @@
--- By the word of the ottava. Assumes nothing.
+-- By the word of the ottava.
 use borrow.Author.Needs.{needs}
 use Rattle.into_rows.proofs.rows.is_under.Statement.{statement}
 use Rattle.into_rows.proofs.rows.is_under.Tie as tie

@@ -1,4 +1,4 @@
--- Test by test. Assumes nothing.
+-- Test by test.
 use borrow.Author.Needs.{needs}
 use Rattle.into_rows.proofs.rows.ottava_marks.Statement.{statement}
 use Rattle.into_rows.proofs.rows.ottava_marks.Tie as tie

@@ -1,4 +1,4 @@
--- By the first member. Assumes nothing.
+-- By the first member.
 use Rattle.into_rows.proofs.Drawing.{pulled}
 use Rattle.into_rows.proofs.rows.pulls.Statement.{statement}
 use Rattle.into_rows.proofs.rows.pulls.Tie as tie

@@ -1,4 +1,4 @@
--- Field by field. Assumes nothing.
+-- Field by field.
 use Rattle.score.specs.Page.{rowEntry}
 use borrow.Author.Needs.{needs}
 use Rattle.into_rows.proofs.rows.row_entry.Statement.{statement}

@@ -1,4 +1,4 @@
--- Test by test. Assumes nothing.
+-- Test by test.
 use mathlib.Core.Path.{refl, sym, _∙_}
 use Rattle.into_rows.proofs.Picked.{picked, passed}
 use borrow.Author.Needs.{needs}

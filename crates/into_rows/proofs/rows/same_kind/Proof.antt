@@ -1,4 +1,4 @@
--- By the words of the ottavas. Assumes nothing.
+-- By the words of the ottavas.
 use borrow.Author.Needs.{needs}
 use Rattle.into_rows.proofs.rows.same_kind.Statement.{statement}
 use Rattle.into_rows.proofs.rows.same_kind.Tie as tie

@@ -1,4 +1,4 @@
--- By whether there are any. Assumes nothing.
+-- By whether there are any.
 use mathlib.Core.Path.{refl}
 use borrow.Author.Tests.{eq-eqb, ne-eqb}
 use Rattle.into_rows.proofs.Picked.{picked, passed}

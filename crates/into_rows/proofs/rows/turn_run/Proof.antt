@@ -1,4 +1,4 @@
--- By the ottava that may go on. Assumes nothing.
+-- By the ottava that may go on.
 use mathlib.Core.Path.{refl}
 use Rattle.into_rows.proofs.Picked.{picked, passed}
 use borrow.Author.Needs.{needs}

@@ -1,4 +1,4 @@
--- Piece by piece. Assumes nothing.
+-- Piece by piece.
 use mathlib.Core.Path.{_≡_, _∙_}
 use lib.ListN.{length}
 use Rattle.into_tracks.proofs.Places.{no-words, part-shown}

@@ -1,4 +1,4 @@
--- By the words from its place on. Assumes nothing.
+-- By the words from its place on.
 use mathlib.Core.Path.{sym}
 use native.Mathlib.Nat.{add-zero}
 use lib.Seq.{length-take-le}

@@ -1,4 +1,4 @@
--- Each part by its words. Assumes nothing.
+-- Each part by its words.
 use Rattle.words.specs.Words.{boardFrom}
 use borrow.Author.Needs.{needs}
 use Rattle.into_tracks.proofs.parts.board_of.Statement.{statement}

@@ -1,4 +1,4 @@
--- The words, one by one. Assumes nothing.
+-- The words, one by one.
 use Rattle.words.specs.Words.{boardWords}
 use Rattle.into_tracks.proofs.Places.{seven}
 use borrow.Author.Needs.{needs}

@@ -1,4 +1,4 @@
--- One word. Assumes nothing.
+-- One word.
 use borrow.Author.Needs.{needs}
 use Rattle.into_tracks.proofs.parts.flag_in.Statement.{statement}
 use Rattle.into_tracks.proofs.parts.flag_in.Tie as tie

@@ -1,4 +1,4 @@
--- The words, stored where the part starts. Assumes nothing.
+-- The words, stored where the part starts.
 use mathlib.Core.Path.{_∙_}
 use native.Mathlib.Nat.{add-zero}
 use Rattle.tables.proofs.Laws.{sets-start}

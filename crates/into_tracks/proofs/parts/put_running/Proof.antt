@@ -1,4 +1,4 @@
--- One word. Assumes nothing.
+-- One word.
 use mathlib.Core.Path.{_∙_}
 use borrow.Author.Needs.{needs}
 use Rattle.into_tracks.proofs.parts.put_running.Statement.{statement}

@@ -1,4 +1,4 @@
--- The words, stored where the voice stands. Assumes nothing.
+-- The words, stored where the voice stands.
 use mathlib.Core.Path.{_∙_}
 use Rattle.tables.proofs.Laws.{sets-start}
 use borrow.Author.Needs.{needs}

@@ -1,4 +1,4 @@
--- The first word. Assumes nothing.
+-- The first word.
 use native.Mathlib.Nat.{add-zero}
 use Rattle.words.specs.Words.{boardFrom}
 use borrow.Author.Needs.{needs}

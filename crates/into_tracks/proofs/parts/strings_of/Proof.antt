@@ -1,4 +1,4 @@
--- Each by its word. Assumes nothing.
+-- Each by its word.
 use Rattle.words.specs.Words.{boardFrom}
 use borrow.Author.Needs.{needs}
 use Rattle.into_tracks.proofs.parts.strings_of.Statement.{statement}

@@ -1,4 +1,4 @@
--- By the words from its place on. Assumes nothing.
+-- By the words from its place on.
 use mathlib.Core.Path.{sym, _∙_}
 use lib.Seq.{length-take-le}
 use Rattle.into_tracks.proofs.Places.{voice-from, voice-taken}

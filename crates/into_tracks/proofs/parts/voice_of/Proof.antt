@@ -1,4 +1,4 @@
--- Word by word. Assumes nothing.
+-- Word by word.
 use Rattle.words.specs.Words.{voiceFrom}
 use borrow.Author.Needs.{needs}
 use Rattle.into_tracks.proofs.parts.voice_of.Statement.{statement}

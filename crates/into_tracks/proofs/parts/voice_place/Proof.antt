@@ -1,4 +1,4 @@
--- The first voice, and any other. Assumes nothing.
+-- The first voice, and any other.
 use Rattle.into_tracks.proofs.Places.{second-voice}
 use borrow.Author.Needs.{needs}
 use Rattle.into_tracks.proofs.parts.voice_place.Statement.{statement}

@@ -1,4 +1,4 @@
--- The words from a place on. Assumes nothing.
+-- The words from a place on.
 use Rattle.into_tracks.proofs.Places.{left-from}
 use borrow.Author.Needs.{needs}
 use Rattle.into_tracks.proofs.parts.words_from.Statement.{statement}

@@ -1,4 +1,4 @@
--- The length of a duration, case by case. Assumes nothing.
+-- The length of a duration, case by case.
 use borrow.Author.Needs.{needs}
 use Rattle.model.proofs.Duration.units.Statement.{statement}
 use Rattle.model.proofs.Duration.units.Tie as tie

@@ -1,4 +1,4 @@
--- The kind that a word stands for; the last arm by what no other arm names. Assumes nothing.
+-- The kind that a word stands for; the last arm by what no other arm names.
 use Rattle.model.proofs.Rest.{rest}
 use Rattle.model.specs.declared.Articulation.the-variants.{Plop}
 use Rattle.model.specs.Kinds.{articulationKinds, articulationOf}

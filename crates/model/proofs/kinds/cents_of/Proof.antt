@@ -1,4 +1,4 @@
--- The kind that a word stands for; the last arm by what no other arm names. Assumes nothing.
+-- The kind that a word stands for; the last arm by what no other arm names.
 use mir.Syntax.{w16}
 use mir.Facts.{toZ-ofZ}
 use borrow.Author.Needs.{sfits-of, needs}

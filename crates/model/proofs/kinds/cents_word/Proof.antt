@@ -1,4 +1,4 @@
--- The word of a kind, case by case. Assumes nothing.
+-- The word of a kind, case by case.
 use mathlib.Core.Path.{ap, _∙_}
 use mir.Syntax.{w16, w32}
 use mir.Val.{SFits}

@@ -1,4 +1,4 @@
--- The kind that a word stands for; the last arm by what no other arm names. Assumes nothing.
+-- The kind that a word stands for; the last arm by what no other arm names.
 use Rattle.model.specs.declared.Duration.the-variants.{Quarter}
 use Rattle.model.specs.Kinds.{durationKinds, durationOf}
 use Rattle.model.proofs.Rest.{rest}

@@ -1,4 +1,4 @@
--- The word of a kind, case by case. Assumes nothing.
+-- The word of a kind, case by case.
 use mathlib.Core.Path.{_≡_, ap, _∙_}
 use mir.Syntax.{w8, w32}
 use mir.Val.{SFits}

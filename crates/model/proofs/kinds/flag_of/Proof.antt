@@ -1,4 +1,4 @@
--- The kind that a word stands for; the last arm by what no other arm names. Assumes nothing.
+-- The kind that a word stands for; the last arm by what no other arm names.
 use Rattle.model.specs.Kinds.{flagOf}
 use mathlib.Core.Path.{refl}
 use Rattle.model.proofs.kinds.flag_of.Statement.{statement}

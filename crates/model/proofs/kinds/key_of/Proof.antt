@@ -1,4 +1,4 @@
--- The kind that a word stands for; the last arm by what no other arm names. Assumes nothing.
+-- The kind that a word stands for; the last arm by what no other arm names.
 use mathlib.Core.Path.{ap, _∙_}
 use lib.IntN.{ℤ}
 use mir.Syntax.{w8}

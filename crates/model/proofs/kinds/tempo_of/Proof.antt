@@ -1,4 +1,4 @@
--- The kind that a word stands for; the last arm by what no other arm names. Assumes nothing.
+-- The kind that a word stands for; the last arm by what no other arm names.
 use borrow.Author.Tests.{eq-eqb, ne-eqb}
 use Rattle.model.specs.Kinds.{tempoOf}
 use borrow.Author.Needs.{needs}

@@ -1,4 +1,4 @@
--- Field by field. Assumes nothing.
+-- Field by field.
 use borrow.Author.Needs.{needs}
 use Rattle.model.specs.Marks.{addedIn, byteCounted}
 use Rattle.model.proofs.marks.listed.Statement.{statement}

@@ -1,4 +1,4 @@
--- Both words are 0. Assumes nothing.
+-- Both words are 0.
 use mathlib.Core.Path.{refl}
 use Rattle.model.specs.Marks.{addedIn}
 use Rattle.model.proofs.marks.none_added.Statement.{statement}

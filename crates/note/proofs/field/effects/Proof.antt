@@ -1,4 +1,4 @@
--- By its two bytes. Assumes nothing.
+-- By its two bytes.
 use borrow.Author.Needs.{needs}
 use Rattle.note.specs.Words.{effectsGiven}
 use Rattle.note.proofs.Plain.{without-effects}

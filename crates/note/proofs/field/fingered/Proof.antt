@@ -1,4 +1,4 @@
--- By its byte. Assumes nothing.
+-- By its byte.
 use borrow.Author.Needs.{needs}
 use Rattle.format.specs.Prog.{has}
 use Rattle.note.specs.Words.{fingeredIn}

@@ -1,4 +1,4 @@
--- By its accents and its effects. Assumes nothing.
+-- By its accents and its effects.
 use borrow.Author.Needs.{needs}
 use Rattle.note.specs.Words.{voicedIn}
 use Rattle.note.proofs.Plain.{plain}

@@ -1,4 +1,4 @@
--- By its flags. Assumes nothing.
+-- By its flags.
 use borrow.Author.Needs.{needs}
 use native.Mathlib.Omega.{arith}
 use Rattle.note.proofs.Hop.{size-few, step-not, step-bare, step-given}

@@ -1,4 +1,4 @@
--- Note after note. Assumes nothing.
+-- Note after note.
 use borrow.Author.Needs.{needs}
 use Prim.Native.Nat.{_<_}
 use native.Mathlib.Omega.{arith}

@@ -1,4 +1,4 @@
--- A plain note, or any other. Assumes nothing.
+-- A plain note, or any other.
 use borrow.Author.Needs.{needs}
 use native.Mathlib.Omega.{arith}
 use lib.ListN.{length}

@@ -1,4 +1,4 @@
--- One field after another. Assumes nothing.
+-- One field after another.
 use borrow.Author.Needs.{needs}
 use Rattle.format.specs.Prog.{has}
 use Rattle.note.proofs.Straight.{straight-flags, straight-read}

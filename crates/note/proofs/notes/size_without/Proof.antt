@@ -1,4 +1,4 @@
--- By the version. Assumes nothing.
+-- By the version.
 use borrow.Author.Tests.{le-leb, lt-leb}
 use Rattle.note.specs.Hop.{sizeWithout}
 use Rattle.note.proofs.notes.size_without.Statement.{statement}

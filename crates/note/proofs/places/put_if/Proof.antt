@@ -1,4 +1,4 @@
--- Given or not. Assumes nothing.
+-- Given or not.
 use borrow.Author.Needs.{needs}
 use Rattle.note.proofs.Filled.{put-given, put-none}
 use Rattle.note.proofs.places.put_if.Statement.{statement}

@@ -1,4 +1,4 @@
--- By its definition. Assumes nothing.
+-- By its definition.
 use borrow.Author.Needs.{needs}
 use Rattle.note.specs.Words.{start}
 use Rattle.note.proofs.places.start_of.Statement.{statement}

@@ -1,4 +1,4 @@
--- Part by part. Assumes nothing.
+-- Part by part.
 use borrow.Author.Needs.{needs}
 use mathlib.Core.Path.{_∙_}
 use Rattle.reader.proofs.answer.answer_of.Statement.{statement}

@@ -1,4 +1,4 @@
--- Table by table. Assumes nothing.
+-- Table by table.
 use borrow.Author.Needs.{needs}
 use Rattle.reader.proofs.answer.has_room.Statement.{statement}
 use Rattle.reader.proofs.answer.has_room.Tie as tie

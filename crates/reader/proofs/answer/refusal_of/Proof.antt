@@ -1,4 +1,4 @@
--- By cases. Assumes nothing.
+-- By cases.
 use borrow.Author.Needs.{needs}
 use mathlib.Core.Path.{_∙_}
 use Rattle.reader.proofs.answer.refusal_of.Statement.{statement}

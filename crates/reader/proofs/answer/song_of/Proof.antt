@@ -1,4 +1,4 @@
--- Field by field. Assumes nothing.
+-- Field by field.
 use borrow.Author.Needs.{needs}
 use Rattle.score.specs.Reading.{songOf}
 use Rattle.reader.proofs.answer.song_of.Statement.{statement}

@@ -1,4 +1,4 @@
--- By cases. Assumes nothing.
+-- By cases.
 use borrow.Author.Needs.{needs}
 use Rattle.reader.proofs.answer.tempo_of.Statement.{statement}
 use Rattle.reader.proofs.answer.tempo_of.Tie as tie

@@ -1,4 +1,4 @@
--- One part after another. Assumes nothing.
+-- One part after another.
 use borrow.Author.Needs.{needs}
 use native.Mathlib.Omega.{arith}
 use Rattle.header.specs.Header.{commonTime}

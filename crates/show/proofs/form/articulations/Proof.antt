@@ -1,4 +1,4 @@
--- The loop ends with the last articulation. Assumes nothing.
+-- The loop ends with the last articulation.
 use borrow.Author.Needs.{needs}
 use Rattle.show.proofs.form.articulations.Statement.{statement}
 use Rattle.show.proofs.form.articulations.Tie as tie

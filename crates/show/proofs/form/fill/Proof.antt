@@ -1,4 +1,4 @@
--- The loop ends with the form: each turn goes on by a byte or two. Assumes nothing.
+-- The loop ends with the form: each turn goes on by a byte or two.
 use mathlib.Core.Logic.{⊎-elim}
 use native.Mathlib.Omega.{arith}
 use Prim.Native.Nat.{_-_}

@@ -1,4 +1,4 @@
--- The loop ends with the names. Assumes nothing.
+-- The loop ends with the names.
 use Prim.Native.Nat.{_≤_, _-_}
 use borrow.Author.Needs.{needs}
 use Rattle.show.proofs.form.name.Statement.{statement}

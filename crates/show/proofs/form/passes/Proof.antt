@@ -1,4 +1,4 @@
--- The loop ends with the bits. Assumes nothing.
+-- The loop ends with the bits.
 use borrow.Author.Needs.{needs}
 use Rattle.show.proofs.form.passes.Statement.{statement}
 use Rattle.show.proofs.form.passes.Tie as tie

@@ -1,4 +1,4 @@
--- The loop ends with the bytes. Assumes nothing.
+-- The loop ends with the bytes.
 use Prim.Native.Nat.{_≤_, _-_}
 use lib.ListN.{length}
 use borrow.Author.Needs.{needs}

@@ -1,4 +1,4 @@
--- Each turn but the last reads a byte or more. Assumes nothing.
+-- Each turn but the last reads a byte or more.
 use mathlib.Core.Path.{_≡_}
 use Prim.Native.Nat.{_≤_, _-_}
 use lib.ListN.{length}

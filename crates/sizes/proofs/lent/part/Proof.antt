@@ -1,4 +1,4 @@
--- The first n words are n in number, since there are more. Assumes nothing.
+-- The first n words are n in number, since there are more.
 use mathlib.Core.Path.{sym}
 use native.Mathlib.Omega.{arith}
 use borrow.Author.Needs.{needs}

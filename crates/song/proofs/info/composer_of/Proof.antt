@@ -1,4 +1,4 @@
--- By the test. Assumes nothing.
+-- By the test.
 use borrow.Author.Tests.{eq-eqb, ne-eqb}
 use Rattle.song.specs.Info.{composerOf}
 use Rattle.song.proofs.info.composer_of.Statement.{statement}

@@ -1,4 +1,4 @@
--- One text after another. Assumes nothing.
+-- One text after another.
 use borrow.Author.Needs.{needs}
 use Rattle.format.proofs.Rules.{reading}
 use Rattle.song.specs.Info.{credits}

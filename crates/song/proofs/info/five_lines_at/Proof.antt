@@ -1,4 +1,4 @@
--- One line after another. Assumes nothing.
+-- One line after another.
 use borrow.Author.Needs.{needs}
 use Rattle.format.proofs.Rules.{reading}
 use Rattle.song.specs.Info.{fiveLines}

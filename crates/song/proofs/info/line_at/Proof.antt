@@ -1,4 +1,4 @@
--- A number and a text. Assumes nothing.
+-- A number and a text.
 use borrow.Author.Needs.{needs}
 use Rattle.format.proofs.Rules.{reading}
 use Rattle.song.specs.Info.{lyricLine}

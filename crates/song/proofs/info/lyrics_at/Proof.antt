@@ -1,4 +1,4 @@
--- The track and the lines, where they stand. Assumes nothing.
+-- The track and the lines, where they stand.
 use borrow.Author.Needs.{needs}
 use Rattle.format.proofs.Rules.{reading}
 use Rattle.song.specs.Info.{lyrics}

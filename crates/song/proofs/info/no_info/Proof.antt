@@ -1,4 +1,4 @@
--- By definition. Assumes nothing.
+-- By definition.
 use mathlib.Core.Path.{refl}
 use Rattle.song.specs.Info.{noInfo}
 use Rattle.song.proofs.info.no_info.Statement.{statement}

@@ -1,4 +1,4 @@
--- What is left of the notices. Assumes nothing.
+-- What is left of the notices.
 use borrow.Author.Needs.{needs}
 use Prim.Native.Nat.{_≤_, _-_}
 use Rattle.format.specs.Prog.{turns}

@@ -1,4 +1,4 @@
--- The byte, where it stands. Assumes nothing.
+-- The byte, where it stands.
 use borrow.Author.Needs.{needs}
 use Rattle.format.proofs.Rules.{reading}
 use Rattle.song.specs.Info.{tripletFeel}

@@ -1,4 +1,4 @@
--- A number, and what is passed over. Assumes nothing.
+-- A number, and what is passed over.
 use borrow.Author.Needs.{needs}
 use Rattle.format.proofs.Rules.{reading}
 use Rattle.song.specs.Setup.{channel}

@@ -1,4 +1,4 @@
--- What is left of the ports. Assumes nothing.
+-- What is left of the ports.
 use borrow.Author.Needs.{needs}
 use Prim.Native.Nat.{_≤_, _-_}
 use mathlib.Core.Path.{_≡_}

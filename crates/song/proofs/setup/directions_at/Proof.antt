@@ -1,4 +1,4 @@
--- The bar numbers, where they stand. Assumes nothing.
+-- The bar numbers, where they stand.
 use borrow.Author.Needs.{needs}
 use Rattle.format.proofs.Rules.{reading}
 use Rattle.song.specs.Setup.{noDirections, directions}

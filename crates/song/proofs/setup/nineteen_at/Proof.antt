@@ -1,4 +1,4 @@
--- What is left of the bar numbers. Assumes nothing.
+-- What is left of the bar numbers.
 use borrow.Author.Needs.{needs}
 use Prim.Native.Nat.{_≤_, _-_}
 use mathlib.Core.Path.{_≡_}

@@ -1,4 +1,4 @@
--- What is left of the channels. Assumes nothing.
+-- What is left of the channels.
 use borrow.Author.Needs.{needs}
 use Prim.Native.Nat.{_≤_, _-_}
 use mathlib.Core.Path.{_≡_}

@@ -1,4 +1,4 @@
--- What is left of the templates. Assumes nothing.
+-- What is left of the templates.
 use borrow.Author.Needs.{needs}
 use Prim.Native.Nat.{_≤_, _-_}
 use Rattle.format.specs.Prog.{turns}

@@ -1,4 +1,4 @@
--- What is left of the digits is as long as it was from the start. Assumes nothing.
+-- What is left of the digits is as long as it was from the start.
 use borrow.Author.Needs.{needs}
 use Prim.Native.Nat.{_+_, _-_}
 use mathlib.Core.Path.{_≡_}

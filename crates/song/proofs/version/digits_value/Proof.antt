@@ -1,4 +1,4 @@
--- What is left of the digits makes the number that all of them make. Assumes nothing.
+-- What is left of the digits makes the number that all of them make.
 use borrow.Author.Needs.{needs}
 use native.Mathlib.Omega.{arith}
 use Prim.Native.Nat.{_-_, _≤_}

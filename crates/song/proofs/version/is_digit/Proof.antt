@@ -1,4 +1,4 @@
--- By the test. Assumes nothing.
+-- By the test.
 use borrow.Author.Tests.{le-leb, lt-leb}
 use Rattle.song.specs.Version.{isDigit}
 use Rattle.song.proofs.version.is_digit.Statement.{statement}

@@ -1,4 +1,4 @@
--- What stands after the length byte. Assumes nothing.
+-- What stands after the length byte.
 use borrow.Author.Needs.{needs}
 use mathlib.Core.Path.{refl, _∙_}
 use Rattle.song.proofs.Digits.{family-empty, family-rest}

@@ -1,4 +1,4 @@
--- By the two tests. Assumes nothing.
+-- By the two tests.
 use borrow.Author.Needs.{needs}
 use native.Mathlib.Omega.{arith}
 use Rattle.song.proofs.Digits.{short-none, short-some}

@@ -1,4 +1,4 @@
--- By what stands at the point and around it. Assumes nothing.
+-- By what stands at the point and around it.
 use borrow.Author.Needs.{needs}
 use native.Mathlib.Omega.{arith}
 use Rattle.format.proofs.Rules.{said-no, said-yes}

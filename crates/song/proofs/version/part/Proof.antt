@@ -1,4 +1,4 @@
--- By how far the text goes. Assumes nothing.
+-- By how far the text goes.
 use borrow.Author.Needs.{needs}
 use Rattle.format.proofs.Text.{between}
 use Rattle.song.proofs.Digits.{part-none, part-past, part-all}

@@ -1,4 +1,4 @@
--- What is left to compare decides as the whole does. Assumes nothing.
+-- What is left to compare decides as the whole does.
 use borrow.Author.Needs.{needs}
 use Prim.Native.Nat.{_≤_, _-_}
 use mathlib.Core.Path.{_≡_, refl}

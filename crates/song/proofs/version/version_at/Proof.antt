@@ -1,4 +1,4 @@
--- The text, and the test of its number. Assumes nothing.
+-- The text, and the test of its number.
 use borrow.Author.Needs.{needs}
 use mathlib.Core.Path.{ap, _∙_}
 use Rattle.format.proofs.Rules.{reading}

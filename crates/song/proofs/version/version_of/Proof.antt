@@ -1,4 +1,4 @@
--- By the prefix and an optional plus. Assumes nothing.
+-- By the prefix and an optional plus.
 use borrow.Author.Needs.{needs}
 use mathlib.Core.Path.{_∙_}
 use Rattle.format.proofs.Rules.{said-no, said-yes}

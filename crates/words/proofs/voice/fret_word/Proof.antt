@@ -1,4 +1,4 @@
--- Nothing, or the fret that the word says. Assumes nothing.
+-- Nothing, or the fret that the word says.
 use Rattle.words.specs.Words.{fretOf}
 use Rattle.words.proofs.Voices.{fret-kept}
 use borrow.Author.Needs.{needs}

@@ -1,4 +1,4 @@
--- The words of a row that waits, case by case. Assumes nothing.
+-- The words of a row that waits, case by case.
 use mathlib.Core.Path.{_∙_, sym}
 use native.Mathlib.Omega.{arith}
 use Rattle.words.proofs.Back.{hammer-back}

@@ -1,4 +1,4 @@
--- Word by word. Assumes nothing.
+-- Word by word.
 use mathlib.Core.Path.{_∙_, ap}
 use Rattle.words.specs.Words.{hammerWords, runWords}
 use Rattle.words.proofs.Voices.{words-kept}

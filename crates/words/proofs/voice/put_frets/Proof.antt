@@ -1,4 +1,4 @@
--- Store by store. Assumes nothing.
+-- Store by store.
 use Rattle.words.proofs.Voices.{frets-put}
 use borrow.Author.Needs.{needs}
 use Rattle.words.proofs.voice.put_frets.Statement.{statement}

@@ -1,4 +1,4 @@
--- Store by store. Assumes nothing.
+-- Store by store.
 use Rattle.words.proofs.Voices.{run-put}
 use borrow.Author.Needs.{needs}
 use Rattle.words.proofs.voice.put_run.Statement.{statement}

@@ -1,4 +1,4 @@
--- By its flag. Assumes nothing.
+-- By its flag.
 use Rattle.words.specs.Words.{voiceFrom, runOf}
 use borrow.Author.Needs.{needs}
 use Rattle.words.proofs.voice.run.Statement.{statement}

@@ -1,4 +1,4 @@
--- The words of an ottava, case by case. Assumes nothing.
+-- The words of an ottava, case by case.
 use borrow.Author.Needs.{needs}
 use Rattle.words.proofs.voice.run_words.Statement.{statement}
 use Rattle.words.proofs.voice.run_words.Tie as tie
