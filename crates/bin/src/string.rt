@@ -177,13 +177,6 @@ pub fn fixed_string(s: &[u8], from: Place, width: usize) -> Kept
     Kept { range, next }
 }
 
-pub fn fixed_string_past(s: &[u8], from: Place, width: usize) -> Place
-    ensures { λ r. ⌜ Gives (field.fixedStringPast width) tt (now (s .entry)) from tt r ⌝ }
-{
-    let at = crate::skip_at(s, from, 1);
-    crate::skip_at(s, at, width)
-}
-
 // A four-byte field size that is not used, then a length byte and the text.
 pub fn int_byte_string_unused(s: &[u8], from: Place) -> Kept
     ensures { λ r. ⌜ Gives field.intByteStringUnused noText (now (s .entry)) from (textIn (now (s .entry)) (r .range)) (r .next) ⌝ }
@@ -208,14 +201,6 @@ pub fn int_string(s: &[u8], from: Place) -> Kept
     let n = crate::u32_at(s, from);
     let at = n.next;
     string_at(s, at, n.value)
-}
-
-pub fn int_string_past(s: &[u8], from: Place) -> Place
-    ensures { λ r. ⌜ Gives field.intStringPast tt (now (s .entry)) from tt r ⌝ }
-{
-    let n = crate::u32_at(s, from);
-    let at = n.next;
-    string_past(s, at, n.value)
 }
 
 // the size less one, and never below 0

@@ -1,12 +1,12 @@
 -- Numbers held to a range.
 use Prim.Native.Nat.{ℕ, _≤_, min, max}
 use mathlib.Core.Path.{_≡_}
-use mathlib.Core.Bool.{cond}
 use lib.Dec.{ltb}
+use Rattle.format.specs.Text.{pick}
 
 -- docs/RULES.md 14, "held to range": x held to lo..hi. From `half` on, a two's complement x stands for a number below zero, and so below lo.
 unfoldable pub held : (half lo hi x : ℕ) → ℕ
-held half lo hi x = cond (ltb x half) (max lo (min hi x)) lo
+held half lo hi x = pick (ltb x half) (max lo (min hi x)) lo
 
 -- the first byte, and the first word of four bytes, that stand for a number below zero
 abbrev pub byteHalf : ℕ

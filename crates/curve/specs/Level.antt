@@ -1,8 +1,9 @@
 -- The running dynamic.
 use Prim.Native.Nat.{ℕ}
-use mathlib.Core.Bool.{Bool, true, _&&_, _||_, cond}
+use mathlib.Core.Bool.{Bool, true, _&&_, _||_}
 use mathlib.Core.List.{List, [], _∷_}
 use lib.Dec.{eqb}
+use Rattle.format.specs.Text.{pick}
 use Rattle.curve.specs.Held.{held, byteHalf}
 use Rattle.curve.specs.declared.level.Level.{Level}
 use Rattle.curve.specs.declared.level.Level.the-variants.{Absent, Given}
@@ -23,7 +24,7 @@ heldLevel (Given byte) = Given (held byteHalf 1 8 byte)
 unfoldable pub noteLevel : (ghost accent heavy : Bool) (stored : Level) → NoteLevel
 noteLevel ghost accent heavy stored = record {
   emphasised = ghost || accent || heavy;
-  given = cond (ghost || accent || heavy) Absent (heldLevel stored);
+  given = pick (ghost || accent || heavy) Absent (heldLevel stored);
 }
 
 -- the later of two, where it is given
@@ -50,11 +51,11 @@ levelOr (Given level) n = level
 
 -- "with none, 6, or the running value if all members are emphasised." A rest has no members, so it keeps the running value.
 unfoldable pub chordLevel : (running : ℕ) → ChordLevel → ℕ
-chordLevel running chord = levelOr (chord .given) (cond (chord .emphasised) running forte)
+chordLevel running chord = levelOr (chord .given) (pick (chord .emphasised) running forte)
 
 -- "A mark is written only at a change."
 unfoldable pub levelAfter : (running : ℕ) → ChordLevel → LevelAfter
 levelAfter running chord = record {
   running = chordLevel running chord;
-  mark = cond (eqb (chordLevel running chord) running) Absent (Given (chordLevel running chord));
+  mark = pick (eqb (chordLevel running chord) running) Absent (Given (chordLevel running chord));
 }

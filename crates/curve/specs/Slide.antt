@@ -1,12 +1,10 @@
 -- What the slide byte of a note says.
-use Prim.Native.Nat.{ℕ, _-_, _/_, _%_}
-use mathlib.Core.Bool.{Bool, not, _&&_, _||_, cond}
+use Prim.Native.Nat.{ℕ, _-_}
+use mathlib.Core.Bool.{_&&_, _||_}
 use lib.Dec.{eqb, ltb}
+use Rattle.format.specs.Text.{pick}
+use Rattle.format.specs.Prog.{has}
 use Rattle.curve.specs.declared.slide.SlideEffect.{SlideEffect}
-
--- `mask` is a power of two: whether that bit of x is set
-abbrev bit : (mask x : ℕ) → Bool
-bit mask x = eqb (x / mask % 2) 1
 
 -- the byte that stands for n below zero
 abbrev minus : ℕ → ℕ
@@ -15,12 +13,12 @@ minus n = 256 - n
 -- From v500: bits 0x04 falloff, 0x08 doit, 0x10 scoop, 0x20 plop; either of the two low bits a shift or legato slide; bits 0xC0 a loss (docs/RULES.md 27).
 abbrev pub bitsSlide : ℕ → SlideEffect
 bitsSlide bits = record {
-  slide = not (eqb (bits % 0x04) 0);
-  falloff = bit 0x04 bits;
-  doit = bit 0x08 bits;
-  scoop = bit 0x10 bits;
-  plop = bit 0x20 bits;
-  lost = not (eqb (bits / 0x40) 0);
+  slide = has bits 0x03;
+  falloff = has bits 0x04;
+  doit = has bits 0x08;
+  scoop = has bits 0x10;
+  plop = has bits 0x20;
+  lost = has bits 0xC0;
 }
 
 -- Before v500: kinds 1 and 2 a shift or legato slide, 3 falloff, 4 doit, -1 scoop, -2 plop; a kind outside -2..4 a loss (docs/RULES.md 27).
@@ -36,4 +34,4 @@ kindSlide kind = record {
 
 -- by the file's version
 unfoldable pub slideOf : (version byte : ℕ) → SlideEffect
-slideOf version byte = cond (ltb version 500) (kindSlide byte) (bitsSlide byte)
+slideOf version byte = pick (ltb version 500) (kindSlide byte) (bitsSlide byte)

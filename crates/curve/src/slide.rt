@@ -19,12 +19,12 @@ fn bits_slide(bits: u8) -> SlideEffect
     ensures { λ r. ⌜ r ≡ bitsSlide bits ⌝ }
 {
     SlideEffect {
-        slide: bits % 4 != 0,
-        falloff: bits / 4 % 2 == 1,
-        doit: bits / 8 % 2 == 1,
-        scoop: bits / 16 % 2 == 1,
-        plop: bits / 32 % 2 == 1,
-        lost: bits / 64 != 0,
+        slide: bits & 0x03 != 0,
+        falloff: bits & 0x04 != 0,
+        doit: bits & 0x08 != 0,
+        scoop: bits & 0x10 != 0,
+        plop: bits & 0x20 != 0,
+        lost: bits & 0xC0 != 0,
     }
 }
 

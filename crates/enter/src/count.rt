@@ -38,8 +38,14 @@ fn one_grace(grace: GraceNote) -> u32
 
 // `strings`: how many the track has.
 fn heard_of(b: &Beat, notes: &Notes, strings: u8) -> Heard
-    ensures notes { λ r. ⌜ ((s : List ℕ) (v : ℕ) → r .notes ≡ spec.heard oneNote (beatIn s v (now (b .entry)) (now (notes .entry)) .strings) strings 0 (beatIn s v (now (b .entry)) (now (notes .entry)) .notes)) ⌝ }
-    ensures graces { λ r. ⌜ ((s : List ℕ) (v : ℕ) → r .graces ≡ spec.heard graceOf (beatIn s v (now (b .entry)) (now (notes .entry)) .strings) strings 0 (beatIn s v (now (b .entry)) (now (notes .entry)) .notes)) ⌝ }
+    ensures notes { λ r. ⌜ ((s : List ℕ) (v : ℕ)
+        → r .notes
+        ≡ spec.heard oneNote (beatIn s v (now (b .entry)) (now (notes .entry)) .strings) strings 0
+        (beatIn s v (now (b .entry)) (now (notes .entry)) .notes)) ⌝ }
+    ensures graces { λ r. ⌜ ((s : List ℕ) (v : ℕ)
+        → r .graces
+        ≡ spec.heard graceOf (beatIn s v (now (b .entry)) (now (notes .entry)) .strings) strings 0
+        (beatIn s v (now (b .entry)) (now (notes .entry)) .notes)) ⌝ }
 {
     let mut count: u32 = 0;
     let mut graces: u32 = 0;
@@ -100,7 +106,10 @@ pub fn count_beat(
     progress: Progress,
     parts: &[u32],
 ) -> Progress
-    ensures { λ r. ⌜ ((v : ℕ) (lost : List ℕ) → tallyOf r lost ≡ countTally (stringsOn track (now (parts .entry))) (beatIn (now (s .entry)) v (now (b .entry)) (now (notes .entry))) (tallyOf progress lost)) ⌝ }
+    ensures { λ r. ⌜ ((v : ℕ) (lost : List ℕ)
+        → tallyOf r lost
+        ≡ countTally (stringsOn track (now (parts .entry)))
+        (beatIn (now (s .entry)) v (now (b .entry)) (now (notes .entry))) (tallyOf progress lost)) ⌝ }
 {
     let before = progress.kept;
     let kept = kept_of(b, notes, string_count_at(parts, track), before);
@@ -118,7 +127,10 @@ pub fn count_beat(
 
 // A beat of plain notes: one row, and a member for each string that sounds.
 pub fn count_plain(strings: u8, track: usize, progress: Progress, parts: &[u32]) -> Progress
-    ensures { λ r. ⌜ ((x : BeatIs) (lost : List ℕ) → Unmarked strings x → tallyOf r lost ≡ countTally (stringsOn track (now (parts .entry))) x (tallyOf progress lost)) ⌝ }
+    ensures { λ r. ⌜ ((x : BeatIs) (lost : List ℕ)
+        → Unmarked strings x
+        → tallyOf r lost
+        ≡ countTally (stringsOn track (now (parts .entry))) x (tallyOf progress lost)) ⌝ }
 {
     let sounding = that_sound(strings, string_count_at(parts, track));
     let before = progress.kept;

@@ -1,3 +1,4 @@
+pub mod Changed
 pub mod Fits
 pub mod Laws
 pub mod Stored

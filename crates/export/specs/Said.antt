@@ -3,7 +3,7 @@ use Prim.Native.Nat.{ℕ, _%_}
 use mathlib.Core.List.{List, [], _∷_, _++_}
 use Rattle.model.specs.declared.Answer.{Answer}
 use Rattle.model.specs.declared.Sizes.{Sizes}
-use Rattle.model.specs.Answers.{outcomeNumber}
+use Rattle.model.specs.Answers.{numbersOf}
 
 abbrev pub sizeWords : Sizes → List ℕ
 sizeWords x = x .bars ∷ x .tracks ∷ x .rows ∷ x .members ∷ x .points ∷ x .texts ∷ []
@@ -11,4 +11,4 @@ sizeWords x = x .bars ∷ x .tracks ∷ x .rows ∷ x .members ∷ x .points ∷
 -- the outcome and the bytes used; how many entries each table holds, and the rooms needed
 unfoldable pub saidWords : Answer → List ℕ
 saidWords x =
-    outcomeNumber (x .outcome) ∷ x .song .used % 4294967296 ∷ sizeWords (x .counts) ++ sizeWords (x .rooms)
+    numbersOf (x .outcome) .number ∷ x .song .used % 4294967296 ∷ sizeWords (x .counts) ++ sizeWords (x .rooms)

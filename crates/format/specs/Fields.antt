@@ -72,9 +72,6 @@ unfoldable pub fixedString : ℕ → Prog TextRead
 fixedString width =
     bind u8 (λ n. whenLe n width (bind (textBytes n) (λ t. bind (skip (width - n)) (λ _. ret t))) (textBytes width))
 
-unfoldable pub fixedStringPast : ℕ → Prog Unit
-fixedStringPast width = bind (skip 1) (λ _. skip width)
-
 -- a field size that is not used, a length byte, the text
 unfoldable pub intByteStringUnused : Prog TextRead
 intByteStringUnused = bind (skip 4) (λ _. bind u8 textBytes)
@@ -85,9 +82,6 @@ intByteStringUnusedPast = bind (skip 4) (λ _. bind u8 skip)
 -- a length, the text
 unfoldable pub intString : Prog TextRead
 intString = bind u32 stringOf
-
-unfoldable pub intStringPast : Prog Unit
-intStringPast = bind u32 stringPast
 
 -- the size less one, and never below 0
 unfoldable pub lessOne : ℕ → ℕ

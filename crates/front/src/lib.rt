@@ -79,7 +79,8 @@ fn one_header(
     losses: [u32; 17],
     bars: &mut [u32],
 ) -> Headings
-    ensures { λ r. ⌜ Reaches (headerStep v numbers bar (timedOf time (now (bars .entry)) before losses)) (now (s .entry)) from (timedOf (r .time) (now (bars .exit)) (r .before) (r .losses)) (r .next) ⌝ }
+    ensures { λ r. ⌜ Reaches (headerStep v numbers bar (timedOf time (now (bars .entry)) before losses)) (now (s .entry)) from
+        (timedOf (r .time) (now (bars .exit)) (r .before) (r .losses)) (r .next) ⌝ }
 {
     let read = header::header_at(s, from, v, time);
     let next = read.next;
@@ -116,7 +117,9 @@ pub fn headers(
     losses: [u32; 17],
     bars: &mut [u32],
 ) -> Headings
-    ensures { λ r. ⌜ Reaches (turns n 0 (headerStep v numbers) (timedOf time (now (bars .entry)) before losses)) (now (s .entry)) from (timedOf (r .time) (now (bars .exit)) (r .before) (r .losses)) (r .next) ⌝ }
+    ensures { λ r. ⌜
+        Reaches (turns n 0 (headerStep v numbers) (timedOf time (now (bars .entry)) before losses)) (now (s .entry))
+        from (timedOf (r .time) (now (bars .exit)) (r .before) (r .losses)) (r .next) ⌝ }
 {
     let mut time = time;
     let mut before = before;
@@ -163,7 +166,8 @@ fn one_track(
     tracks: &mut [u32],
     parts: &mut [u32],
 ) -> Tracked
-    ensures { λ r. ⌜ Reaches (trackStep v programs number (stavesOf (now (tracks .entry)) (now (parts .entry)) losses)) (now (s .entry)) from (stavesOf (now (tracks .exit)) (now (parts .exit)) (r .losses)) (r .next) ⌝ }
+    ensures { λ r. ⌜ Reaches (trackStep v programs number (stavesOf (now (tracks .entry)) (now (parts .entry)) losses))
+        (now (s .entry)) from (stavesOf (now (tracks .exit)) (now (parts .exit)) (r .losses)) (r .next) ⌝ }
 {
     let read = track::track_at(s, from, v, programs);
     let next = read.next;
@@ -186,7 +190,8 @@ pub fn all_tracks(
     tracks: &mut [u32],
     parts: &mut [u32],
 ) -> Tracked
-    ensures { λ r. ⌜ Reaches (turns n 0 (trackStep v programs) (stavesOf (now (tracks .entry)) (now (parts .entry)) losses)) (now (s .entry)) from (stavesOf (now (tracks .exit)) (now (parts .exit)) (r .losses)) (r .next) ⌝ }
+    ensures { λ r. ⌜ Reaches (turns n 0 (trackStep v programs) (stavesOf (now (tracks .entry)) (now (parts .entry)) losses))
+        (now (s .entry)) from (stavesOf (now (tracks .exit)) (now (parts .exit)) (r .losses)) (r .next) ⌝ }
 {
     let mut losses = losses;
     let mut at = from;

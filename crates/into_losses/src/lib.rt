@@ -54,7 +54,11 @@ fn sign_losses(losses: [u32; 17], directions: [u16; 19]) -> [u32; 17]
 }
 
 pub fn song_losses(swing: bool, directions: [u16; 19]) -> [u32; 17]
-    ensures { λ r. ⌜ r ≡ reports (rule.reportIf swing TripletFeel ++ rule.reported (unsupported directions otherSigns) UnsupportedDirection) (replicate 17 0) ⌝ }
+    ensures { λ r. ⌜ r
+        ≡ reports
+        (rule.reportIf swing TripletFeel ++ rule.reported (unsupported directions otherSigns)
+        UnsupportedDirection)
+        (replicate 17 0) ⌝ }
 {
     sign_losses(report_if([0u32; 17], swing, Loss::TripletFeel), directions)
 }
@@ -104,7 +108,9 @@ fn effect_losses(losses: &mut Losses, b: &Beat, v: u32)
 }
 
 fn mix_losses(losses: &mut Losses, b: &Beat)
-    ensures { λ _. ⌜ now (losses .exit) ≡ reports (rule.mixLosses (mixIn (byteIn (now (b .entry)) meaning.FLAGS) (now (b .entry)))) (now (losses .entry)) ⌝ }
+    ensures { λ _. ⌜ now (losses .exit)
+        ≡ reports (rule.mixLosses (mixIn (byteIn (now (b .entry)) meaning.FLAGS) (now (b .entry))))
+        (now (losses .entry)) ⌝ }
 {
     lose_if(losses, beat::field::wah_lost(b), Loss::UnsupportedWah);
     lose_if(
@@ -190,7 +196,9 @@ fn on_beat(grace: GraceNote) -> bool
 }
 
 fn built_losses(losses: &mut Losses, notes: &Notes, string: usize)
-    ensures { λ _. ⌜ ((v : ℕ) → now (losses .exit) ≡ reports (rule.builtLosses (readIn v (now (notes .entry)) string)) (now (losses .entry))) ⌝ }
+    ensures { λ _. ⌜ ((v : ℕ)
+        → now (losses .exit)
+        ≡ reports (rule.builtLosses (readIn v (now (notes .entry)) string)) (now (losses .entry))) ⌝ }
 {
     if lossless(notes, string) {
         return;

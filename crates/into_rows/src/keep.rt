@@ -56,7 +56,10 @@ fn last_after(kind: RowKind, own: Span, last: Span) -> Span
 }
 
 fn turn_voice(draft: Draft, company: Company, kept: Kept, voice: &mut VoiceWords)
-    ensures { λ _. ⌜ ((ms : List Member) (ps : List Point) → Sums ms company → voiceIn (now (voice .exit)) ≡ voiceAfter (drawn ms ps draft) kept (voiceIn (now (voice .entry)))) ⌝ }
+    ensures { λ _. ⌜ ((ms : List Member) (ps : List Point)
+        → Sums ms company
+        → voiceIn (now (voice .exit))
+        ≡ voiceAfter (drawn ms ps draft) kept (voiceIn (now (voice .entry)))) ⌝ }
 {
     let kind = draft.kind;
     let own = rows::span_of(kept.members, company.count);

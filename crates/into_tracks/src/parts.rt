@@ -204,7 +204,8 @@ pub fn voice_at(parts: &[u32], track: usize, voice: usize) -> VoiceWords
 }
 
 pub fn put_voice(parts: &mut [u32], track: usize, voice: usize, w: &VoiceWords)
-    ensures { λ _. ⌜ now (parts .exit) ≡ sets (now (parts .entry)) (track * partStride + voicePlace voice) (voiceWords (voiceIn (now (w .entry)))) ⌝ }
+    ensures { λ _. ⌜ now (parts .exit)
+        ≡ sets (now (parts .entry)) (track * partStride + voicePlace voice) (voiceWords (voiceIn (now (w .entry)))) ⌝ }
 {
     let words = voice::kept_words(w);
     let at = place_of(parts, track, voice_place(voice));

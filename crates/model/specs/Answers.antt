@@ -18,34 +18,24 @@ use Rattle.model.specs.declared.Answer.{Answer}
 use Rattle.model.specs.declared.Loss.{Loss}
 use Rattle.model.specs.declared.Loss.the-variants.{DrumKit, HarmonicType, LetRingWithPalmMute, OnBeatGrace, RepeatCount, TripletFeel, UnsupportedChordDiagram, UnsupportedDirection, UnsupportedFingering, UnsupportedMixChange, UnsupportedRasgueado, UnsupportedRightHandFingering, UnsupportedSlideType, UnsupportedTapping, UnsupportedVolumeSwell, UnsupportedWah, UnsupportedWhammy}
 
+-- document 01's number of an outcome; of outcome 3 also the count's, from 1 on, and its value
+pub record Numbers : Type 0 where
+  pub number : ℕ
+  pub which : ℕ
+  pub value : ℤ
+
+abbrev pub only : ℕ → Numbers
+only n = record { number = n; which = 0; value = pos 0 }
+
 -- the seven outcomes
-abbrev pub outcomeNumber : Outcome → ℕ
-outcomeNumber Read = 0
-outcomeNumber Truncated = 1
-outcomeNumber Version = 2
-outcomeNumber (Count k v) = 3
-outcomeNumber Empty = 4
-outcomeNumber TooLong = 5
-outcomeNumber NoRoom = 6
-
--- which count, and its value: those of outcome 3
-abbrev pub outcomeWhich : Outcome → ℕ
-outcomeWhich Read = 0
-outcomeWhich Truncated = 0
-outcomeWhich Version = 0
-outcomeWhich (Count k v) = countNumber k
-outcomeWhich Empty = 0
-outcomeWhich TooLong = 0
-outcomeWhich NoRoom = 0
-
-abbrev pub outcomeValue : Outcome → ℤ
-outcomeValue Read = pos 0
-outcomeValue Truncated = pos 0
-outcomeValue Version = pos 0
-outcomeValue (Count k v) = v
-outcomeValue Empty = pos 0
-outcomeValue TooLong = pos 0
-outcomeValue NoRoom = pos 0
+abbrev pub numbersOf : Outcome → Numbers
+numbersOf Read = only 0
+numbersOf Truncated = only 1
+numbersOf Version = only 2
+numbersOf (Count k v) = record { number = 3; which = countNumber k; value = v }
+numbersOf Empty = only 4
+numbersOf TooLong = only 5
+numbersOf NoRoom = only 6
 
 -- ---- 0 or absent
 

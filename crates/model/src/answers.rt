@@ -15,7 +15,7 @@ ghost use mathlib.Core.Path.{_≡_};
 ghost use lib.ListN.{getD, set};
 ghost use Rattle.tables.specs.Table.{oneMore};
 ghost use Rattle.format.specs.Fields.{countNumber};
-ghost use Rattle.model.specs.Answers.{outcomeNumber, outcomeWhich, outcomeValue, noSizes, noLosses, noLyrics, noSong, readAnswer, refusal, noRoomAnswer, lossNumber, lossWords, lossesOf};
+ghost use Rattle.model.specs.Answers.{numbersOf, noSizes, noLosses, noLyrics, noSong, readAnswer, refusal, noRoomAnswer, lossNumber, lossWords, lossesOf};
 
 pub fn count_number(x: Counted) -> u32
     ensures { λ r. ⌜ r ≡ countNumber x ⌝ }
@@ -31,7 +31,7 @@ pub fn count_number(x: Counted) -> u32
 }
 
 pub fn outcome_number(x: Outcome) -> u32
-    ensures { λ r. ⌜ r ≡ outcomeNumber x ⌝ }
+    ensures { λ r. ⌜ r ≡ numbersOf x .number ⌝ }
 {
     match x {
         Outcome::Read => 0,
@@ -45,7 +45,7 @@ pub fn outcome_number(x: Outcome) -> u32
 }
 
 pub fn outcome_which(x: Outcome) -> u32
-    ensures { λ r. ⌜ r ≡ outcomeWhich x ⌝ }
+    ensures { λ r. ⌜ r ≡ numbersOf x .which ⌝ }
 {
     match x {
         Outcome::Read => 0,
@@ -59,7 +59,7 @@ pub fn outcome_which(x: Outcome) -> u32
 }
 
 pub fn outcome_value(x: Outcome) -> i32
-    ensures { λ r. ⌜ r ≡ outcomeValue x ⌝ }
+    ensures { λ r. ⌜ r ≡ numbersOf x .value ⌝ }
 {
     match x {
         Outcome::Read => 0,

@@ -3,7 +3,7 @@
 -- they report.
 use Prim.Native.Nat.{ℕ, zero, suc, _+_, _*_, _≤_, _<_}
 use mathlib.Core.Path.{_≡_, refl, _∙_}
-use mathlib.Core.Bool.{Bool, true, false, cond, _&&_, false≢true}
+use mathlib.Core.Bool.{Bool, true, false, _&&_, false≢true}
 use mathlib.Core.List.{List, [], _∷_, map}
 use native.Mathlib.Omega.{arith}
 use native.Mathlib.Numerals.{bound}
@@ -153,7 +153,7 @@ unfolding percussionKey
 key-fits false fret tuning capo h = omega arith
 key-fits true fret tuning capo h = go (eqb fret 27) (eqb fret 28) (eqb fret 32)
   where
-    go : (t u w : Bool) → cond t 42 (cond u 60 (cond w 31 fret)) < 256
+    go : (t u w : Bool) → pick t 42 (pick u 60 (pick w 31 fret)) < 256
     go true u w = omega arith
     go false true w = omega arith
     go false false true = omega arith
@@ -212,7 +212,7 @@ level-or-fits : (l : Level) (n : ℕ) → LevelFits l → n < 256 → levelOr l 
 level-or-fits Absent n f h = h
 level-or-fits (Given x) n f h = omega arith
 
-cond-fits : (t : Bool) (a : ℕ) → a < 256 → cond t a forte < 256
+cond-fits : (t : Bool) (a : ℕ) → a < 256 → pick t a forte < 256
 cond-fits true a h = h
 cond-fits false a h = omega arith
 

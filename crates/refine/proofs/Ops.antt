@@ -26,7 +26,8 @@ use Rattle.model.specs.declared.Tempo.the-variants.{NoTempo, Bpm}
 use Rattle.model.proofs.Fits.{KeyFits, TempoFits}
 use Rattle.model.proofs.KindLaws.{ending-place-back, key-back, tempo-back}
 use Rattle.model.specs.Kinds.{endingPlaceWord, endingPlaceOf, tempoWord, tempoOf, techniqueWord, flagWord, stringWord}
-use Rattle.entries.specs.Changed.{withPlace, withTempo, withTechnique, withOttavaEnd, withTieStart, technique-set, ottava-end-set, tie-start-set}
+use Rattle.entries.specs.Changed.{withPlace, withTempo, withTechnique, withOttavaEnd, withTieStart}
+use Rattle.entries.proofs.Changed.{technique-set, ottava-end-set, tie-start-set}
 use Rattle.entries.proofs.Fits.{RangeFits}
 use Rattle.entries.proofs.Laws.{row-length}
 use Rattle.entries.specs.Words.{barWords, barStride, placeAt, tempoAt, rowWords, rowStride, techniqueAt, ottavaEndAt, memberWords, memberStride, tieStartAt, textWords, textStride}

@@ -3,7 +3,7 @@ use Prim.Native.Nat.{ℕ, zero, suc, _+_, _*_, _-_, _≤_, _<_, min, max}
 use native.Mathlib.Omega.{arith}
 use mathlib.Core.Path.{_≡_, refl, _∙_}
 use mathlib.Core.List.{List, [], _∷_, _++_}
-use mathlib.Core.Bool.{Bool, true, false, cond, _||_}
+use mathlib.Core.Bool.{Bool, true, false, _||_}
 use lib.ListN.{length, getD, set, replicate, length-set}
 use lib.Dec.{leb, ltb, eqb}
 use lib.IntN.{pos, negsuc}
@@ -116,7 +116,7 @@ held-within : (half hi x : ℕ) → held half 0 hi x ≤ hi
 unfolding held
 held-within half hi x = go (ltb x half)
   where
-    go : (t : Bool) → cond t (max 0 (min hi x)) 0 ≤ hi
+    go : (t : Bool) → pick t (max 0 (min hi x)) 0 ≤ hi
     go true = omega arith
     go false = omega arith
 
@@ -125,11 +125,11 @@ level-within : (ghost accent heavy : Bool) (stored : Level)
 unfolding noteLevel held
 level-within ghost accent heavy stored = go (ghost || accent || heavy) stored
   where
-    at : (t : Bool) (byte : ℕ) → cond t (max 1 (min 8 byte)) 1 ≤ 8
+    at : (t : Bool) (byte : ℕ) → pick t (max 1 (min 8 byte)) 1 ≤ 8
     at true byte = omega arith
     at false byte = omega arith
 
-    go : (t : Bool) (l : Level) → LevelFits (cond t Absent (heldLevel l))
+    go : (t : Bool) (l : Level) → LevelFits (pick t Absent (heldLevel l))
     go true l = tt
     go false Absent = tt
     go false (Given byte) = at (ltb byte byteHalf) byte

@@ -1,10 +1,10 @@
 -- A lent table is a list of words; an entry is K of them, the stride. What a table shows, for every stride and every kind of entry.
 use Prim.Native.Nat.{ℕ, zero, suc, _+_, _*_, _/_}
-use mathlib.Core.Bool.{cond}
 use mathlib.Core.List.{List, [], _∷_, _++_}
 use lib.ListN.{length, take, drop}
 use lib.Seq.{sets}
 use lib.Dec.{ltb, leb}
+use Rattle.format.specs.Text.{pick}
 
 -- the room of a table: the number of whole entries; none of no words
 abbrev pub room : List ℕ → ℕ → ℕ
@@ -12,7 +12,7 @@ room t K = length t / K
 
 -- entry i of a table that has it whole, and no words otherwise
 unfoldable pub entry : List ℕ → ℕ → ℕ → List ℕ
-entry t i K = cond (leb (i * K + K) (length t)) (take K (drop (i * K) t)) []
+entry t i K = pick (leb (i * K + K) (length t)) (take K (drop (i * K) t)) []
 
 -- the words of many entries, one after another: f says the words of one
 abbrev pub words : {A : Type 0} → (A → List ℕ) → List A → List ℕ
@@ -38,4 +38,4 @@ change g (a ∷ es) (suc p) = a ∷ change g es p
 
 -- one more, as far as a word of 32 bits goes
 unfoldable pub oneMore : ℕ → ℕ
-oneMore n = cond (ltb n 4294967295) (n + 1) n
+oneMore n = pick (ltb n 4294967295) (n + 1) n

@@ -2,7 +2,7 @@
 use Prim.Native.Nat.{ℕ, _≤_}
 use native.Mathlib.Omega.{arith}
 use mathlib.Core.Path.{_≡_, refl}
-use mathlib.Core.Bool.{Bool, true, false, cond}
+use mathlib.Core.Bool.{Bool, true, false}
 use mathlib.Core.List.{List, [], _∷_, map}
 use borrow.Author.Needs.{sfits-of}
 use borrow.Author.Tests.{ltb-false}
@@ -10,6 +10,7 @@ use lib.Dec.{ltb, leb, eqb}
 use lib.IntN.{ℤ, pos, negsuc, _+ℤ_}
 use mir.Syntax.{w16, w32}
 use mir.Val.{toZ, SFits}
+use Rattle.format.specs.Text.{pick}
 use Rattle.model.specs.declared.Cents.{Cents}
 use Rattle.model.specs.declared.Point.{Point}
 use Rattle.model.proofs.Fits.{HeightFits}
@@ -26,7 +27,7 @@ use Rattle.refine.proofs.All.{All}
 abbrev CentsFit : Cents → Type 0
 CentsFit c = SFits w16 (c .0)
 
-either : {A : Type 0} (P : A → Type 0) (b : Bool) (x y : A) → P x → P y → P (cond b x y)
+either : {A : Type 0} (P : A → Type 0) (b : Bool) (x y : A) → P x → P y → P (pick b x y)
 either P true x y f g = f
 either P false x y f g = g
 
@@ -35,12 +36,12 @@ either P false x y f g = g
 held-fits : (z : ℤ) → SFits w16 (heldZ (negsuc 2399) (pos 2400) z)
 held-fits (pos n) = go (ltb 2400 n) refl
   where
-    go : (b : Bool) → ltb 2400 n ≡ b → SFits w16 (cond b (pos 2400) (pos n))
+    go : (b : Bool) → ltb 2400 n ≡ b → SFits w16 (pick b (pos 2400) (pos n))
     go true e = sfits-of (omega arith)
     go false e = sfits-of (omega (arith, ltb-false 2400 n e))
 held-fits (negsuc n) = go (ltb 2399 n) refl
   where
-    go : (b : Bool) → ltb 2399 n ≡ b → SFits w16 (cond b (negsuc 2399) (negsuc n))
+    go : (b : Bool) → ltb 2399 n ≡ b → SFits w16 (pick b (negsuc 2399) (negsuc n))
     go true e = sfits-of (omega arith)
     go false e = sfits-of (omega (arith, ltb-false 2399 n e))
 

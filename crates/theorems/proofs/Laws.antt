@@ -25,7 +25,7 @@ use Rattle.score.specs.Reading.{reading}
 use Rattle.model.specs.declared.Outcome.the-variants as O
 use Rattle.model.specs.Answers.{refusal, noRoomAnswer}
 use Rattle.theorems.proofs.Filled.{Untouched, untouched, filled-past}
-use Rattle.theorems.specs.Promise.{number, used, Beginning, Stops, Seven, read, truncated, version, count, empty}
+use Rattle.theorems.specs.Promise.{outcomeIn, used, Beginning, Stops, Seven, read, truncated, version, count, empty}
 use Rattle.theorems.specs.Promise.{tooLong, noRoom}
 
 -- ---- a file and tables get one of the seven outcomes
@@ -85,7 +85,7 @@ kept-used (text m f) s at n i a h e (inr k) =
 
 -- ---- what each of them says, by its number
 
-pub up-to-six : {d : List ℕ} {t : Tables} {r : Result} → Seven d t r → number r ≤ 6
+pub up-to-six : {d : List ℕ} {t : Tables} {r : Result} → Seven d t r → outcomeIn r ≤ 6
 up-to-six (read b e) = omega arith
 up-to-six (truncated s) = omega arith
 up-to-six (version s) = omega arith
@@ -94,7 +94,7 @@ up-to-six (empty s) = omega arith
 up-to-six (tooLong l s) = omega arith
 up-to-six (noRoom b e) = omega arith
 
-pub refusal-keeps : {d : List ℕ} {t : Tables} {r : Result} → Seven d t r → (number r ≡ 0 → ⊥) → r .tables ≡ t
+pub refusal-keeps : {d : List ℕ} {t : Tables} {r : Result} → Seven d t r → (outcomeIn r ≡ 0 → ⊥) → r .tables ≡ t
 refusal-keeps (read b e) h = absurd (h refl)
 refusal-keeps (truncated s) h = refl
 refusal-keeps (version s) h = refl
@@ -103,7 +103,7 @@ refusal-keeps (empty s) h = refl
 refusal-keeps (tooLong l s) h = refl
 refusal-keeps (noRoom b e) h = refl
 
-pub read-begins : {d : List ℕ} {t : Tables} {r : Result} → Seven d t r → number r ≡ 0
+pub read-begins : {d : List ℕ} {t : Tables} {r : Result} → Seven d t r → outcomeIn r ≡ 0
     → (x : Score) × Beginning d x (used r) × (enough (needed x) t ≡ true)
 unfolding songOf
 read-begins (read {x = x} b e) h = (x, b, e)
@@ -114,7 +114,7 @@ read-begins (empty s) h = absurd (omega arith)
 read-begins (tooLong l s) h = absurd (omega arith)
 read-begins (noRoom b e) h = absurd (omega arith)
 
-pub short-begins : {d : List ℕ} {t : Tables} {r : Result} → Seven d t r → number r ≡ 6
+pub short-begins : {d : List ℕ} {t : Tables} {r : Result} → Seven d t r → outcomeIn r ≡ 6
     → (x : Score) × (n : ℕ) × Beginning d x n × (enough (needed x) t ≡ false)
 short-begins (read b e) h = absurd (omega arith)
 short-begins (truncated s) h = absurd (omega arith)

@@ -3,33 +3,27 @@ use Prim.Native.Nat.{ℕ}
 use mathlib.Core.Bool.{Bool, true, false}
 use mathlib.Core.List.{List}
 use mathlib.Core.Path.{_≡_, refl}
+use Rattle.format.specs.Text.{pick}
 use Rattle.format.specs.Verdict as Ends
 use Rattle.format.specs.Verdict.{Verdict, whole, badVersion, badCount, verdict}
-use Rattle.model.specs.Answers.{outcomeNumber, outcomeWhich, outcomeValue}
+use Rattle.model.specs.Answers.{only, numbersOf, noRoomAnswer}
 use Rattle.score.specs.Score.{scored}
-use Rattle.score.specs.Reading.{Tables, Result, Score, needed, enough, resultOf, reading}
-use Rattle.theorems.specs.Promise.{Promise, numberOf, whichOf, valueOf}
+use Rattle.score.specs.Reading.{Tables, Result, Score, needed, enough, fileAnswer, filled, refused, resultOf, reading}
+use Rattle.theorems.specs.Promise.{Promise, verdictNumbers}
 
 module _ (t : Tables) where
-  record Numbers (v : Verdict Score) : Type 0 where
-    number : outcomeNumber (resultOf t v .answer .outcome) ≡ numberOf t v
-    which : outcomeWhich (resultOf t v .answer .outcome) ≡ whichOf v
-    value : outcomeValue (resultOf t v .answer .outcome) ≡ valueOf v
-
-  with-room : (x : Score) (n : ℕ) (room : Bool) → enough (needed x) t ≡ room → Numbers (whole x n)
-  with-room x n true e = record { number = rw e; which = rw e; value = rw e }
-  with-room x n false e = record { number = rw e; which = rw e; value = rw e }
-
-  numbers : (v : Verdict Score) → Numbers v
-  numbers (whole x n) = with-room x n (enough (needed x) t) refl
-  numbers Ends.truncated = record { number = refl; which = refl; value = refl }
-  numbers Ends.tooLong = record { number = refl; which = refl; value = refl }
-  numbers badVersion = record { number = refl; which = refl; value = refl }
-  numbers (badCount which value) = record { number = refl; which = refl; value = refl }
-  numbers Ends.empty = record { number = refl; which = refl; value = refl }
+  numbers-so : (v : Verdict Score) → numbersOf (resultOf t v .answer .outcome) ≡ verdictNumbers t v
+  numbers-so (whole x n) = go (enough (needed x) t)
+    where
+      go : (room : Bool) → numbersOf (pick room (record { answer = fileAnswer x n; tables = filled t x }) (refused (noRoomAnswer (needed x)) t) .answer .outcome) ≡ only (pick room 0 6)
+      go true = refl
+      go false = refl
+  numbers-so Ends.truncated = refl
+  numbers-so Ends.tooLong = refl
+  numbers-so badVersion = refl
+  numbers-so (badCount which value) = refl
+  numbers-so Ends.empty = refl
 
 pub promised : {d : List ℕ} {t : Tables} {r : Result} → r ≡ reading d t → Promise d t r
 unfolding reading
-promised {d} {t} e =
-    let n = numbers t (verdict scored d) in
-    record { is = e; number = rw e (n .number); which = rw e (n .which); value = rw e (n .value) }
+promised {d} {t} e = record { is = e; numbers = rw e (numbers-so t (verdict scored d)) }

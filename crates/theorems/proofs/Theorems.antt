@@ -14,7 +14,7 @@ use Rattle.model.specs.Answers.{refusal, noRoomAnswer}
 use Rattle.score.specs.Score.{scored}
 use Rattle.score.specs.Reading.{Tables, Result, Score, songOf, needed, enough, filled, fileAnswer, refused}
 use Rattle.theorems.proofs.Worked.{Worked, worked}
-use Rattle.theorems.specs.Promise.{Promise, number, used, Beginning, Seven}
+use Rattle.theorems.specs.Promise.{Promise, outcomeIn, used, Beginning, Seven}
 use Rattle.theorems.proofs.Filled.{Untouched, HandedOut, handed-out}
 use Rattle.theorems.proofs.FitFile.{score-fits}
 use Rattle.theorems.proofs.Laws.{seven-outcomes, up-to-six, refusal-keeps, read-begins, short-begins, past-counts}
@@ -40,11 +40,11 @@ module _ {d : List ℕ} {t : Tables} {r : Result} (p : Promise d t r) where
   pub one-of-seven : Seven d t r
   one-of-seven = rw (p .is) (seven-outcomes d t)
 
-  pub numbered-0-to-6 : number r ≤ 6
+  pub numbered-0-to-6 : outcomeIn r ≤ 6
   numbered-0-to-6 = up-to-six one-of-seven
 
   -- "A refusal changes no table."
-  pub refusal-changes-no-table : (number r ≡ 0 → ⊥) → r .tables ≡ t
+  pub refusal-changes-no-table : (outcomeIn r ≡ 0 → ⊥) → r .tables ≡ t
   refusal-changes-no-table = refusal-keeps one-of-seven
 
   -- document 01: "On 0, rows past the count are untouched, on a refusal all." So it is in each of the six tables
@@ -52,7 +52,7 @@ module _ {d : List ℕ} {t : Tables} {r : Result} (p : Promise d t r) where
   past-count-untouched = past-counts one-of-seven
 
   -- "'No room' is given only for a file that would otherwise be read": where a beginning fits and a table is short,
-  pub no-room-exactly : number r ≡ 6 ↔ ((x : Score) × (n : ℕ) × Beginning d x n × (enough (needed x) t ≡ false))
+  pub no-room-exactly : outcomeIn r ≡ 6 ↔ ((x : Score) × (n : ℕ) × Beginning d x n × (enough (needed x) t ≡ false))
   no-room-exactly = (short-begins one-of-seven, λ w. rw (p .is, fits-short (w .2) t (w .3)))
 
   -- with all six rooms in the answer,
@@ -61,8 +61,8 @@ module _ {d : List ℕ} {t : Tables} {r : Result} (p : Promise d t r) where
   no-room-names-rooms b e = p .is ∙ fits-short b t e
 
   -- and into tables of these rooms the file is read
-  pub no-room-else-read : {u : Tables} {q : Result} → number r ≡ 6 → Promise d u q
-      → enough (r .answer .rooms) u ≡ true → number q ≡ 0
+  pub no-room-else-read : {u : Tables} {q : Result} → outcomeIn r ≡ 6 → Promise d u q
+      → enough (r .answer .rooms) u ≡ true → outcomeIn q ≡ 0
   no-room-else-read {u} h o e =
       let w = short-begins one-of-seven h in
       let is : r ≡ refused (noRoomAnswer (needed (w .0))) t = no-room-names-rooms (w .2) (w .3) in
@@ -86,7 +86,7 @@ module _ {d : List ℕ} {t : Tables} {r : Result} {x : Score} {n : ℕ} (p : Pro
 module _ {d : List ℕ} {t : Tables} {r : Result} (p : Promise d t r) where
   -- "With room enough, a file is read exactly when some beginning of it, of at most 16,777,216 bytes, fits the format."
   pub read-with-room : ((x : Score) (n : ℕ) → Beginning d x n → enough (needed x) t ≡ true)
-      → number r ≡ 0 ↔ ((x : Score) × (n : ℕ) × Beginning d x n)
+      → outcomeIn r ≡ 0 ↔ ((x : Score) × (n : ℕ) × Beginning d x n)
   read-with-room room = (
     λ h. let w = read-begins (one-of-seven p) h in (w .0, used r, w .1),
     λ w. rw (p .is, fits-read (w .2) t (room (w .0) (w .1) (w .2))),
@@ -94,7 +94,7 @@ module _ {d : List ℕ} {t : Tables} {r : Result} (p : Promise d t r) where
 
   -- "Say n bytes are used."
   pub read-exactly : (n : ℕ)
-      → ((number r ≡ 0) × (used r ≡ n)) ↔ ((x : Score) × Beginning d x n × (enough (needed x) t ≡ true))
+      → ((outcomeIn r ≡ 0) × (used r ≡ n)) ↔ ((x : Score) × Beginning d x n × (enough (needed x) t ≡ true))
   unfolding songOf
   read-exactly n = (
     λ h. rw (h .1) at (read-begins (one-of-seven p) (h .0)),
@@ -126,6 +126,6 @@ module _ {d : List ℕ} {x : Score} {n : ℕ} (b : Beginning d x n) where
 
 -- "Into tables of the same sizes and contents the altered file gives the same n, rows, ranges and loss counts, and all
 -- else in the answer and the tables alike."
-pub altered-is-read-alike : {d e : List ℕ} {t : Tables} {r q : Result} → Promise d t r → Promise e t q → number r ≡ 0
+pub altered-is-read-alike : {d e : List ℕ} {t : Tables} {r q : Result} → Promise d t r → Promise e t q → outcomeIn r ≡ 0
     → used r ≤ length e → ((i : ℕ) → i < used r → Kept scored d 0 i → getD d i 0 ≡ getD e i 0) → q ≡ r
 altered-is-read-alike p o h l same = sym (altered-passed-over (read-begins (one-of-seven p) h .1) p o l same)

@@ -4,7 +4,6 @@ use mathlib.Core.Logic.{_⊎_}
 use mathlib.Core.Path.{_≡_}
 use mathlib.Core.Bool.{true, false}
 use mathlib.Core.List.{List}
-use lib.IntN.{ℤ, pos}
 use lib.ListN.{length}
 use Rattle.bin.specs.Signed.{signed}
 use Rattle.format.specs.declared.Counted.{Counted}
@@ -17,51 +16,30 @@ use Rattle.format.specs.Fields.{countNumber}
 use Rattle.format.specs.Verdict as Ends
 use Rattle.format.specs.Verdict.{LIMIT, Verdict, whole, badVersion, badCount, upTo, verdict}
 use Rattle.model.specs.declared.Outcome.the-variants as O
-use Rattle.model.specs.Answers.{outcomeNumber, outcomeWhich, outcomeValue, refusal, noRoomAnswer}
+use Rattle.model.specs.Answers.{Numbers, only, numbersOf, refusal, noRoomAnswer}
 use Rattle.score.specs.Score.{scored}
 use Rattle.score.specs.Reading.{Tables, Result, Score, needed, enough, filled, fileAnswer, refused, reading}
 
--- ---- document 01, "Seven outcomes": the numbers of what reading a file came to
-
-abbrev pub numberOf : Tables → Verdict Score → ℕ
-numberOf t (whole x used) = pick (enough (needed x) t) 0 6
-numberOf t Ends.truncated = 1
-numberOf t badVersion = 2
-numberOf t (badCount which value) = 3
-numberOf t Ends.empty = 4
-numberOf t Ends.tooLong = 5
-
--- the count that was refused, from 1 on, and its value; 0 for all else
-abbrev pub whichOf : Verdict Score → ℕ
-whichOf (whole x used) = 0
-whichOf Ends.truncated = 0
-whichOf badVersion = 0
-whichOf (badCount which value) = countNumber which
-whichOf Ends.empty = 0
-whichOf Ends.tooLong = 0
-
-abbrev pub valueOf : Verdict Score → ℤ
-valueOf (whole x used) = pos 0
-valueOf Ends.truncated = pos 0
-valueOf badVersion = pos 0
-valueOf (badCount which value) = signed 2147483648 value
-valueOf Ends.empty = pos 0
-valueOf Ends.tooLong = pos 0
-
--- ---- the promise of `read`
+-- document 01, "Seven outcomes": the numbers of what reading a file into the tables t came to
+abbrev pub verdictNumbers : Tables → Verdict Score → Numbers
+verdictNumbers t (whole x used) = only (pick (enough (needed x) t) 0 6)
+verdictNumbers t Ends.truncated = only 1
+verdictNumbers t badVersion = only 2
+verdictNumbers t (badCount which value) = record { number = 3; which = countNumber which; value = signed 2147483648 value }
+verdictNumbers t Ends.empty = only 4
+verdictNumbers t Ends.tooLong = only 5
 
 -- r, the answer and the six tables after a call, is what reading the file d into the tables t comes to, and its outcome has document 01's
 -- numbers
 pub record Promise (d : List ℕ) (t : Tables) (r : Result) : Type 0 where
   pub is : r ≡ reading d t
-  pub number : outcomeNumber (r .answer .outcome) ≡ numberOf t (verdict scored d)
-  pub which : outcomeWhich (r .answer .outcome) ≡ whichOf (verdict scored d)
-  pub value : outcomeValue (r .answer .outcome) ≡ valueOf (verdict scored d)
+  pub numbers : numbersOf (r .answer .outcome) ≡ verdictNumbers t (verdict scored d)
 
 -- ---- the words that the theorems use
 
-abbrev pub number : Result → ℕ
-number r = outcomeNumber (r .answer .outcome)
+-- document 01's number of the outcome
+abbrev pub outcomeIn : Result → ℕ
+outcomeIn r = numbersOf (r .answer .outcome) .number
 
 abbrev pub used : Result → ℕ
 used r = r .answer .song .used

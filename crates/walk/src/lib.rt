@@ -74,7 +74,14 @@ fn one_beat(
     notes: &mut Notes,
     chord: &mut Chord,
 ) -> Step
-    ensures { λ r. ⌜ Reaches (beatStep false (now (s .entry)) v (place .bar) (place .track) (place .voice) (walkOf (now (bars .entry)) (now (rows .entry)) (now (members .entry)) (now (points .entry)) (now (texts .entry)) (now (parts .entry)) (tallyOf progress (now (lost .entry))))) (now (s .entry)) from (walkOf (now (bars .exit)) (now (rows .exit)) (now (members .exit)) (now (points .exit)) (now (texts .exit)) (now (parts .exit)) (tallyOf (r .progress) (now (lost .exit)))) (r .next) ⌝ }
+    ensures { λ r. ⌜ Reaches
+        (beatStep false (now (s .entry)) v (place .bar) (place .track) (place .voice)
+        (walkOf (now (bars .entry)) (now (rows .entry)) (now (members .entry)) (now (points .entry))
+        (now (texts .entry)) (now (parts .entry)) (tallyOf progress (now (lost .entry)))))
+        (now (s .entry)) from
+        (walkOf (now (bars .exit)) (now (rows .exit)) (now (members .exit)) (now (points .exit))
+        (now (texts .exit)) (now (parts .exit)) (tallyOf (r .progress) (now (lost .exit))))
+        (r .next) ⌝ }
 {
     let next = beat::read_beat(s, from, v, b, notes);
     let Place::At(_) = next else {
@@ -117,7 +124,14 @@ fn beats(
     notes: &mut Notes,
     chord: &mut Chord,
 ) -> Step
-    ensures { λ r. ⌜ Reaches (turns n 0 (file.oneBeat (entering false (now (s .entry))) v (place .bar) (place .track) (place .voice)) (walkOf (now (bars .entry)) (now (rows .entry)) (now (members .entry)) (now (points .entry)) (now (texts .entry)) (now (parts .entry)) (tallyOf progress (now (lost .entry))))) (now (s .entry)) from (walkOf (now (bars .exit)) (now (rows .exit)) (now (members .exit)) (now (points .exit)) (now (texts .exit)) (now (parts .exit)) (tallyOf (r .progress) (now (lost .exit)))) (r .next) ⌝ }
+    ensures { λ r. ⌜ Reaches
+        (turns n 0 (file.oneBeat (entering false (now (s .entry))) v (place .bar) (place .track) (place .voice))
+        (walkOf (now (bars .entry)) (now (rows .entry)) (now (members .entry)) (now (points .entry))
+        (now (texts .entry)) (now (parts .entry)) (tallyOf progress (now (lost .entry)))))
+        (now (s .entry)) from
+        (walkOf (now (bars .exit)) (now (rows .exit)) (now (members .exit)) (now (points .exit))
+        (now (texts .exit)) (now (parts .exit)) (tallyOf (r .progress) (now (lost .exit))))
+        (r .next) ⌝ }
 {
     let mut progress = progress;
     let mut at = from;
@@ -161,7 +175,9 @@ fn count_read(
     b: &mut Beat,
     notes: &mut Notes,
 ) -> Step
-    ensures { λ r. ⌜ Counts (countStep (now (s .entry)) v track) (now (s .entry)) (now (parts .entry)) from progress (r .progress) (r .next) ⌝ }
+    ensures { λ r. ⌜
+        Counts (countStep (now (s .entry)) v track) (now (s .entry)) (now (parts .entry)) from progress (r .progress)
+        (r .next) ⌝ }
 {
     let past = beat::read_beat(s, from, v, b, notes);
     let Place::At(_) = past else {
@@ -190,7 +206,8 @@ fn count_beats(
     b: &mut Beat,
     notes: &mut Notes,
 ) -> Step
-    ensures { λ r. ⌜ Counts (countSteps n (now (s .entry)) v track) (now (s .entry)) (now (parts .entry)) from progress (r .progress) (r .next) ⌝ }
+    ensures { λ r. ⌜ Counts (countSteps n (now (s .entry)) v track) (now (s .entry)) (now (parts .entry)) from progress
+        (r .progress) (r .next) ⌝ }
 {
     let mut progress = progress;
     let mut at = from;
@@ -231,7 +248,14 @@ fn voice(
     notes: &mut Notes,
     chord: &mut Chord,
 ) -> Step
-    ensures { λ r. ⌜ Reaches (file.voice (entering counting (now (s .entry))) v (place .bar) (place .track) (place .voice) (walkOf (now (bars .entry)) (now (rows .entry)) (now (members .entry)) (now (points .entry)) (now (texts .entry)) (now (parts .entry)) (tallyOf progress (now (lost .entry))))) (now (s .entry)) from (walkOf (now (bars .exit)) (now (rows .exit)) (now (members .exit)) (now (points .exit)) (now (texts .exit)) (now (parts .exit)) (tallyOf (r .progress) (now (lost .exit)))) (r .next) ⌝ }
+    ensures { λ r. ⌜ Reaches
+        (file.voice (entering counting (now (s .entry))) v (place .bar) (place .track) (place .voice)
+        (walkOf (now (bars .entry)) (now (rows .entry)) (now (members .entry)) (now (points .entry))
+        (now (texts .entry)) (now (parts .entry)) (tallyOf progress (now (lost .entry)))))
+        (now (s .entry)) from
+        (walkOf (now (bars .exit)) (now (rows .exit)) (now (members .exit)) (now (points .exit))
+        (now (texts .exit)) (now (parts .exit)) (tallyOf (r .progress) (now (lost .exit))))
+        (r .next) ⌝ }
 {
     let count = bin::count_at(s, from, Counted::Beats);
     let at = count.next;
@@ -295,7 +319,14 @@ fn voices(
     notes: &mut Notes,
     chord: &mut Chord,
 ) -> Step
-    ensures { λ r. ⌜ Reaches (turns n 0 (file.voice (entering counting (now (s .entry))) v bar track) (walkOf (now (bars .entry)) (now (rows .entry)) (now (members .entry)) (now (points .entry)) (now (texts .entry)) (now (parts .entry)) (tallyOf progress (now (lost .entry))))) (now (s .entry)) from (walkOf (now (bars .exit)) (now (rows .exit)) (now (members .exit)) (now (points .exit)) (now (texts .exit)) (now (parts .exit)) (tallyOf (r .progress) (now (lost .exit)))) (r .next) ⌝ }
+    ensures { λ r. ⌜ Reaches
+        (turns n 0 (file.voice (entering counting (now (s .entry))) v bar track)
+        (walkOf (now (bars .entry)) (now (rows .entry)) (now (members .entry)) (now (points .entry))
+        (now (texts .entry)) (now (parts .entry)) (tallyOf progress (now (lost .entry)))))
+        (now (s .entry)) from
+        (walkOf (now (bars .exit)) (now (rows .exit)) (now (members .exit)) (now (points .exit))
+        (now (texts .exit)) (now (parts .exit)) (tallyOf (r .progress) (now (lost .exit))))
+        (r .next) ⌝ }
 {
     let mut progress = progress;
     let mut at = from;
@@ -352,7 +383,14 @@ fn bar_track(
     notes: &mut Notes,
     chord: &mut Chord,
 ) -> Step
-    ensures { λ r. ⌜ Reaches (file.barTrack (entering counting (now (s .entry))) v bar track (walkOf (now (bars .entry)) (now (rows .entry)) (now (members .entry)) (now (points .entry)) (now (texts .entry)) (now (parts .entry)) (tallyOf progress (now (lost .entry))))) (now (s .entry)) from (walkOf (now (bars .exit)) (now (rows .exit)) (now (members .exit)) (now (points .exit)) (now (texts .exit)) (now (parts .exit)) (tallyOf (r .progress) (now (lost .exit)))) (r .next) ⌝ }
+    ensures { λ r. ⌜ Reaches
+        (file.barTrack (entering counting (now (s .entry))) v bar track
+        (walkOf (now (bars .entry)) (now (rows .entry)) (now (members .entry)) (now (points .entry))
+        (now (texts .entry)) (now (parts .entry)) (tallyOf progress (now (lost .entry)))))
+        (now (s .entry)) from
+        (walkOf (now (bars .exit)) (now (rows .exit)) (now (members .exit)) (now (points .exit))
+        (now (texts .exit)) (now (parts .exit)) (tallyOf (r .progress) (now (lost .exit))))
+        (r .next) ⌝ }
 {
     let count = voices_at(s, from, v);
     let at = count.next;
@@ -397,7 +435,14 @@ fn bar_tracks(
     notes: &mut Notes,
     chord: &mut Chord,
 ) -> Step
-    ensures { λ r. ⌜ Reaches (turns tracks 0 (file.barTrack (entering counting (now (s .entry))) v bar) (walkOf (now (bars .entry)) (now (rows .entry)) (now (members .entry)) (now (points .entry)) (now (texts .entry)) (now (parts .entry)) (tallyOf progress (now (lost .entry))))) (now (s .entry)) from (walkOf (now (bars .exit)) (now (rows .exit)) (now (members .exit)) (now (points .exit)) (now (texts .exit)) (now (parts .exit)) (tallyOf (r .progress) (now (lost .exit)))) (r .next) ⌝ }
+    ensures { λ r. ⌜ Reaches
+        (turns tracks 0 (file.barTrack (entering counting (now (s .entry))) v bar)
+        (walkOf (now (bars .entry)) (now (rows .entry)) (now (members .entry)) (now (points .entry))
+        (now (texts .entry)) (now (parts .entry)) (tallyOf progress (now (lost .entry)))))
+        (now (s .entry)) from
+        (walkOf (now (bars .exit)) (now (rows .exit)) (now (members .exit)) (now (points .exit))
+        (now (texts .exit)) (now (parts .exit)) (tallyOf (r .progress) (now (lost .exit))))
+        (r .next) ⌝ }
 {
     let mut progress = progress;
     let mut at = from;
@@ -451,7 +496,14 @@ fn one_bar(
     notes: &mut Notes,
     chord: &mut Chord,
 ) -> Step
-    ensures { λ r. ⌜ Reaches (file.bar (entering counting (now (s .entry))) v tracks bar (walkOf (now (bars .entry)) (now (rows .entry)) (now (members .entry)) (now (points .entry)) (now (texts .entry)) (now (parts .entry)) (tallyOf progress (now (lost .entry))))) (now (s .entry)) from (walkOf (now (bars .exit)) (now (rows .exit)) (now (members .exit)) (now (points .exit)) (now (texts .exit)) (now (parts .exit)) (tallyOf (r .progress) (now (lost .exit)))) (r .next) ⌝ }
+    ensures { λ r. ⌜ Reaches
+        (file.bar (entering counting (now (s .entry))) v tracks bar
+        (walkOf (now (bars .entry)) (now (rows .entry)) (now (members .entry)) (now (points .entry))
+        (now (texts .entry)) (now (parts .entry)) (tallyOf progress (now (lost .entry)))))
+        (now (s .entry)) from
+        (walkOf (now (bars .exit)) (now (rows .exit)) (now (members .exit)) (now (points .exit))
+        (now (texts .exit)) (now (parts .exit)) (tallyOf (r .progress) (now (lost .exit))))
+        (r .next) ⌝ }
 {
     let key = into_bars::key_at(bars, bar as usize);
     let progress = enter::enter_bar(progress, key);
@@ -495,7 +547,14 @@ fn every_bar(
     notes: &mut Notes,
     chord: &mut Chord,
 ) -> Step
-    ensures { λ r. ⌜ Reaches (turns n 0 (file.bar (entering counting (now (s .entry))) v tracks) (walkOf (now (bars .entry)) (now (rows .entry)) (now (members .entry)) (now (points .entry)) (now (texts .entry)) (now (parts .entry)) (tallyOf progress (now (lost .entry))))) (now (s .entry)) from (walkOf (now (bars .exit)) (now (rows .exit)) (now (members .exit)) (now (points .exit)) (now (texts .exit)) (now (parts .exit)) (tallyOf (r .progress) (now (lost .exit)))) (r .next) ⌝ }
+    ensures { λ r. ⌜ Reaches
+        (turns n 0 (file.bar (entering counting (now (s .entry))) v tracks)
+        (walkOf (now (bars .entry)) (now (rows .entry)) (now (members .entry)) (now (points .entry))
+        (now (texts .entry)) (now (parts .entry)) (tallyOf progress (now (lost .entry)))))
+        (now (s .entry)) from
+        (walkOf (now (bars .exit)) (now (rows .exit)) (now (members .exit)) (now (points .exit))
+        (now (texts .exit)) (now (parts .exit)) (tallyOf (r .progress) (now (lost .exit))))
+        (r .next) ⌝ }
 {
     let mut progress = progress;
     let mut at = from;
@@ -546,7 +605,14 @@ pub fn all_bars(
     texts: &mut [u32],
     parts: &mut [u32],
 ) -> Walked
-    ensures { λ r. ⌜ Reaches (turns n 0 (file.bar (entering counting (now (s .entry))) v tracks) (walkOf (now (bars .entry)) (now (rows .entry)) (now (members .entry)) (now (points .entry)) (now (texts .entry)) (now (parts .entry)) tally)) (now (s .entry)) from (walkOf (now (bars .exit)) (now (rows .exit)) (now (members .exit)) (now (points .exit)) (now (texts .exit)) (now (parts .exit)) (r .tally)) (r .next) ⌝ }
+    ensures { λ r. ⌜ Reaches
+        (turns n 0 (file.bar (entering counting (now (s .entry))) v tracks)
+        (walkOf (now (bars .entry)) (now (rows .entry)) (now (members .entry)) (now (points .entry))
+        (now (texts .entry)) (now (parts .entry)) tally))
+        (now (s .entry)) from
+        (walkOf (now (bars .exit)) (now (rows .exit)) (now (members .exit)) (now (points .exit))
+        (now (texts .exit)) (now (parts .exit)) (r .tally))
+        (r .next) ⌝ }
 {
     let mut lost = tally.losses;
     let mut b = [0usize; 19];
