@@ -50,7 +50,7 @@ use Rattle.note.specs.Notes.{stringBit, noNotes, notes}
 use Rattle.beat.specs.Head.{head}
 use Rattle.beat.specs.Beat.{BeatIs, beatNotes, beatBy, beat}
 use Rattle.score.specs.Members.{Keyed}
-use Rattle.score.specs.Rows.{marksOfNotes, beatMarks, addedAll, marksOf as rowMarks}
+use Rattle.score.specs.Rows.{marksOfNotes, beatMarks, addedAll, rowArticulations}
 use Rattle.score.specs.Page.{bendRoom, bendRooms}
 
 -- ---- the facts: of what begins at a position of the file s and ends at n
@@ -472,8 +472,8 @@ add-distinct : (done more : List Articulation) → Distinct done → Distinct (a
 add-distinct done [] f = f
 add-distinct done (a ∷ more) f = add-distinct (addOnce a done) more (distinct-add a done f)
 
-pub marks-few : (e : BeatEffects) (xs : List Keyed) → length (rowMarks e xs) < 256
-unfolding rowMarks
+pub marks-few : (e : BeatEffects) (xs : List Keyed) → length (rowArticulations e xs) < 256
+unfolding rowArticulations
 marks-few e xs =
     let marks = marksOfNotes e xs ++ beatMarks e in
     omega (arith, distinct-few (addedAll [] marks) (add-distinct [] marks distinct-nil))

@@ -1,6 +1,8 @@
 // What programs show of an answer and its tables: the dump, a line for each entry. The forms of its lines name words of the
 // tables by the numbers that docs/TABLES.md has.
 use form::PAGE;
+use loads::NO_ENTRY;
+use loads::Table;
 use model::Answer;
 use model::Losses;
 use model::LyricLine;
@@ -13,6 +15,7 @@ use model::kinds;
 
 pub mod form;
 pub mod input;
+mod loads;
 pub mod record;
 
 // How much text a page holds, and what became of the text before it: written to standard output, or digested by FNV-1a.
@@ -77,7 +80,17 @@ pub fn flush(page: &[u8; PAGE], s: Sink) -> Sink {
     next
 }
 
-// The form of each entry of a table.
+// One line, and the page emptied where it is full.
+fn line(page: &mut [u8; PAGE], s: Sink, form: &[u8], words: &[u32], i: u32) -> Sink {
+    let mut next = s;
+    next.at = form::fill(page, s.at, form, words, i);
+    if FULL <= next.at {
+        return flush(page, next);
+    }
+    next
+}
+
+// The form of each of `count` entries of `stride` words.
 pub fn entries(
     page: &mut [u8; PAGE],
     from: Sink,
@@ -89,16 +102,33 @@ pub fn entries(
     let mut s = from;
     let mut i: u32 = 0;
     while i < count {
-        s.at = form::fill(
+        s = line(
             page,
-            s.at,
+            s,
             form,
             tables::entry_of(table, i as usize, stride),
             i,
         );
-        if FULL <= s.at {
-            s = flush(page, s);
-        }
+        i += 1;
+    }
+    s
+}
+
+// The form of each entry of a table, by its loads.
+fn loaded(
+    page: &mut [u8; PAGE],
+    from: Sink,
+    form: &[u8],
+    kind: Table,
+    table: &[u32],
+    count: u32,
+) -> Sink {
+    let mut s = from;
+    let mut words = NO_ENTRY;
+    let mut i: u32 = 0;
+    while i < count {
+        loads::load(kind, table, i as usize, &mut words);
+        s = line(page, s, form, &words, i);
         i += 1;
     }
     s
@@ -213,28 +243,28 @@ fn song_tables(
     tracks: &[u32],
     rows: &[u32],
 ) -> Sink {
-    let s = entries(
+    let s = loaded(
         page,
         s,
         b"bar #@ time=#0/#1 timechanged=#4 key=?2{none|~3,major|~3,minor} keychanged=#5 repeatstart=#6 repeatend=#7 \
           double=#8 ending=!9{none|#9} passes=!a{none|&a} place=?b{none|begin|mid|end|begin_end} marker=#c,#d \
           direction=?e{none|Coda|Segno|Fine|DaCapo|DaCapoAlCoda|DaCapoAlFine|DalSegno|DalSegnoAlCoda|DalSegnoAlFine|ToCoda} \
           tempo=!f{none|#f}\n",
+        Table::Bars,
         bars,
-        entries::bars::BAR_WORDS,
         counts.bars,
     );
-    let s = entries(
+    let s = loaded(
         page,
         s,
         b"track #@ name=#0,#1 tunings=?2{none|#3|#3,#4|#3,#4,#5|#3,#4,#5,#6|#3,#4,#5,#6,#7|#3,#4,#5,#6,#7,#8|\
           #3,#4,#5,#6,#7,#8,#9} capo=#a percussion=#b tablature=#c clef=?d{treble|bass|percussion} channel=#e \
           program=!f{none|<f}\n",
+        Table::Tracks,
         tracks,
-        entries::tracks::TRACK_WORDS,
         counts.tracks,
     );
-    entries(
+    loaded(
         page,
         s,
         b"row #@ bar=#0 track=#1 voice=#2 kind=?3{beat|grace} rest=#4 \
@@ -242,8 +272,8 @@ fn song_tables(
           technique=?c{none|bend|hammer|pull|slide} text=?b{none|palmmute|letring} curve=#d,#e \
           height=!f{none|~g} dynamic=!h{none|#h} articulations=!i{none|^i} arpeggio=?l{none|up|down} \
           head=?m{normal|x} ottavastart=?n{none|8va|8vb|15ma|15mb} ottavaend=#o chord=#p,#q finger=?r{none|0|1|2|3|4}\n",
+        Table::Rows,
         rows,
-        entries::rows::ROW_WORDS,
         counts.rows,
     )
 }
@@ -256,29 +286,29 @@ fn row_tables(
     points: &[u32],
     texts: &[u32],
 ) -> Sink {
-    let s = entries(
+    let s = loaded(
         page,
         s,
         b"member #@ key=#0 flat=#1 string=!2{none|#2} fret=!2{none|#3} ghost=#4 tiestart=#6 tieend=#5 \
           finger=?7{none|0|1|2|3|4}\n",
+        Table::Members,
         members,
-        entries::members::MEMBER_WORDS,
         counts.members,
     );
-    let s = entries(
+    let s = loaded(
         page,
         s,
         b"point #@ permille=#0 cents=~1\n",
+        Table::Points,
         points,
-        entries::points::POINT_WORDS,
         counts.points,
     );
-    entries(
+    loaded(
         page,
         s,
         b"text #@ bar=#0 track=#1 range=#2,#3\n",
+        Table::Texts,
         texts,
-        entries::texts::TEXT_WORDS,
         counts.texts,
     )
 }
