@@ -1,5 +1,6 @@
 -- What a file tells: its headers, tracks and beats in the order read, and what is made of them.
-use Prim.Native.Nat.{ℕ, _<_}
+use Prim.Native.Nat.{ℕ, _+_, _<_}
+use mathlib.Core.Path.{_≡_}
 use mathlib.Core.List.{List, [], _∷_, _++_}
 use Rattle.format.specs.Prog.{Prog}
 use Rattle.model.specs.declared.Time.{Time}
@@ -91,6 +92,11 @@ module _ {H T W : Type 0} (add : Adding H T W) where
 
   unfoldable pub made : Told → Whole T W
   made x = record { song = x .song; tracks = tracksMade (x .song) (x .tracks); bars = eventsMade (x .song) (x .bars) }
+
+-- ---- headers are told in the order of their bars, from number n on
+abbrev pub Numbered : ℕ → List HeadTold → Type 0
+Numbered n [] = Unit {0}
+Numbered n (h ∷ hs) = (h .bar ≡ n) × Numbered (n + 1) hs
 
 -- ---- where a file's events stand: bars from 0 on, voices of tracks that there are
 abbrev pub Placed : Opening → Event → Type 0

@@ -1,0 +1,5 @@
+pub mod EndingPlaces
+pub mod Chords
+pub mod KeptChords
+pub mod KeptWalk
+pub mod TieStarts
