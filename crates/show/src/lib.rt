@@ -1,7 +1,6 @@
 // What programs show of an answer and its tables: the dump, a line for each entry. The forms of its lines name words of the
 // tables by the numbers that docs/TABLES.md has.
 use form::PAGE;
-use loads::NO_ENTRY;
 use loads::Table;
 use model::Answer;
 use model::Losses;
@@ -124,10 +123,9 @@ fn loaded(
     count: u32,
 ) -> Sink {
     let mut s = from;
-    let mut words = NO_ENTRY;
     let mut i: u32 = 0;
     while i < count {
-        loads::load(kind, table, i as usize, &mut words);
+        let words = loads::load(kind, table, i as usize);
         s = line(page, s, form, &words, i);
         i += 1;
     }

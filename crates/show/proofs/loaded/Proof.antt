@@ -5,10 +5,10 @@ use Rattle.show.proofs.loaded.Statement.{statement}
 use Rattle.show.proofs.loaded.Tie as tie
 
 abbrev Inv-loop : tie.InvT-loop
-Inv-loop page₀ form kind table count s₀ words₀ i₀ page s words i = i ≤ count
+Inv-loop page₀ form kind table count s₀ i₀ page s i = i ≤ count
 
 abbrev μ-loop : tie.MeasureT-loop
-μ-loop page₀ form kind table count s₀ words₀ i₀ page s words i = count - i
+μ-loop page₀ form kind table count s₀ i₀ page s i = count - i
 
 pub loaded-spec : {M : Type 1} → statement M
 loaded-spec =
@@ -16,4 +16,12 @@ loaded-spec =
     (tie.spec
     Inv-loop
     μ-loop
-    ?)
+    (λ c. search needs)
+    (λ c. search needs)
+    (λ c κs. search needs)
+    (λ c. search needs)
+    (λ c κs. search needs)
+    (λ c. search needs)
+    (λ c. search needs)
+    (λ c. search needs)
+    (λ c. search needs))
