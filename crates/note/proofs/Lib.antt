@@ -8,3 +8,5 @@ pub mod Straight
 pub mod Turns
 pub mod Over
 pub mod Hop
+pub mod Passed
+pub mod Standing

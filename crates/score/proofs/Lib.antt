@@ -3,3 +3,5 @@ pub mod Facts
 pub mod Follow
 pub mod Summary
 pub mod Files
+pub mod Passed
+pub mod Standing

@@ -60,10 +60,10 @@ fn page_at(s: &[u8], from: Place, v: u32) -> Place
 fn hide_tempo_at(s: &[u8], from: Place, v: u32) -> Place
     ensures { λ r. ⌜ Reaches (setup.hideTempo v) (now (s .entry)) from tt r ⌝ }
 {
-    if 510 <= v {
-        return skip_at(s, from, 1);
+    if v < 510 {
+        return from;
     }
-    from
+    skip_at(s, from, 1)
 }
 
 fn octave_at(s: &[u8], from: Place, v: u32) -> Place

@@ -1,6 +1,5 @@
 pub mod Promised
 pub mod Worked
-pub mod Passed
 pub mod FitPoints
 pub mod FitRows
 pub mod FitWalk

@@ -1,14 +1,16 @@
 -- What the promise of `read` comes to, demand by demand: the demand's words stand before each theorem. Promise.antt has
 -- the words that they use, Laws.antt, Filled.antt and FitFile.antt the longer proofs.
 use Prim.Native.Nat.{ℕ, _≤_, _<_}
-use mathlib.Core.Logic.{_↔_}
+use mathlib.Core.Logic.{_↔_, _⊎_, inl, inr}
 use mathlib.Core.Path.{_≡_, refl, sym, _∙_}
 use mathlib.Core.Bool.{true, false}
 use mathlib.Core.List.{List}
 use lib.ListN.{length, getD, take}
 use Rattle.format.specs.Alike.{Alike, Kept}
+use Rattle.format.specs.Passed.{Skipped}
 use Rattle.format.specs.Yields.{Bytes}
 use Rattle.format.proofs.Fits.{begins-unique}
+use Rattle.format.proofs.Passed.{skipped-not-kept}
 use Rattle.model.specs.declared.Outcome.the-variants as O
 use Rattle.model.specs.Answers.{refusal, noRoomAnswer}
 use Rattle.score.specs.Score.{scored}
@@ -116,9 +118,17 @@ module _ {d : List ℕ} {x : Score} {n : ℕ} (b : Beginning d x n) where
     pub altered-after : take n d ≡ take n e → r ≡ q
     altered-after same = p .is ∙ same-reading b (after-begins b e same) t ∙ sym (o .is)
 
-    -- "or inside the first n only bytes that document 01 names as passed over": none that is kept (Passed.antt)
+    -- "or inside the first n only bytes that document 01 names as passed over": none that is kept. That none of document
+    -- 01's list is kept, item by item, is said in the crate passed (PassedOver.antt)
     pub altered-passed-over : n ≤ length e → ((i : ℕ) → i < n → Kept scored d 0 i → getD d i 0 ≡ getD e i 0) → r ≡ q
     altered-passed-over l same = p .is ∙ same-reading b (kept-begins b e l same) t ∙ sym (o .is)
+
+    -- so each of the first n bytes is the same, or it is one that is passed over
+    pub altered-skipped : n ≤ length e → ((i : ℕ) → i < n → (getD d i 0 ≡ getD e i 0) ⊎ Skipped d scored 0 i) → r ≡ q
+    altered-skipped l each = altered-passed-over l (λ i h k. elim (each i h) [
+      | inl same ↦ same
+      | inr z ↦ absurd (skipped-not-kept (z .skips) i (z .from) (z .below) k)
+    ])
 
     -- files that are alike field by field: a text's bytes too may differ where the text that is handed out does not
     pub altered-alike : Alike scored d e 0 → r ≡ q

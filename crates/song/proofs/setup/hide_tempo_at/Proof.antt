@@ -1,4 +1,4 @@
--- The field, where it stands.
+-- The field, where it stands. Assumes nothing.
 use borrow.Author.Needs.{needs}
 use Rattle.format.proofs.Rules.{reading}
 use Rattle.song.specs.Setup.{hideTempo}
@@ -10,6 +10,6 @@ unfolding hideTempo
 hide-tempo-at-spec =
     tie.close
     (tie.spec
-    (λ c κs. search needs)
     (λ c. search reading)
+    (λ c κs. search needs)
     (λ c. search reading))

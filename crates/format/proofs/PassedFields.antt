@@ -1,0 +1,101 @@
+-- What the kinds of field pass over.
+use Prim.Native.Nat.{ℕ, zero, suc, _+_, _*_, _-_, _≤_}
+use native.Mathlib.Omega.{arith}
+use mathlib.Core.Path.{_≡_, refl}
+use mathlib.Core.List.{List}
+use lib.ListN.{getD}
+use Rattle.format.specs.Prog.{Prog, ret, refuse, byte, pass, text, ok, run, bind}
+use Rattle.format.specs.Fields.{u8, number, u32, skip, textBytes, MAXSTRING, stringPast, fixedString, lessOne}
+use Rattle.format.specs.Fields.{intByteString, intByteStringPast, intByteStringUnusedPast}
+use Rattle.format.proofs.Run.{ret-ok, pass-ok}
+use Rattle.format.specs.Passed.{Skips, here, past, after-byte, after-text, Stands, StringPassed}
+use Rattle.format.proofs.Passed.{skips-after, skips-le, stands-skips}
+
+-- three programs, one after another
+bind-bind : {A B C : Type 0} (p : Prog A) (g : A → Prog B) (f : B → Prog C)
+    → bind (bind p g) f ≡ bind p (λ a. bind (g a) f)
+unfolding bind
+bind-bind (ret a) g f = refl
+bind-bind (refuse r) g f = refl
+bind-bind (byte k) g f = λ i. byte (λ b. bind-bind (k b) g f i)
+bind-bind (pass n p) g f = λ i. pass n (bind-bind p g f i)
+bind-bind (text n k) g f = λ i. text n (λ t. bind-bind (k t) g f i)
+
+-- ---- what a field of known width is followed by
+pub next-byte : {A : Type 0} {s : List ℕ} {k n at : ℕ} (f : ℕ → Prog A)
+    → ((b : ℕ) → Skips s k n (f b) (at + 1)) → Skips s k n (bind u8 f) at
+unfolding u8 bind
+next-byte f h = after-byte (h _)
+
+pub next-number : {A : Type 0} {s : List ℕ} {k n at : ℕ} (w : ℕ) (f : ℕ → Prog A)
+    → ((r : ℕ) → Skips s k n (f r) (at + w)) → Skips s k n (bind (number w) f) at
+unfolding number bind
+next-number {at = at} zero f h = let e : at + 0 ≡ at = omega arith in rw e at (h 0)
+next-number {at = at} (suc w) f h =
+    let e : at + suc w ≡ at + 1 + w = omega arith in
+    rw (bind-bind u8 (λ b. bind (number w) (λ r. ret (b + 256 * r))) f)
+    (next-byte _ (λ b.
+    rw (bind-bind (number w) (λ r. ret (b + 256 * r)) f)
+    (next-number w _ (λ r. rw e at (h (b + 256 * r))))))
+
+pub next-skip : {A : Type 0} {s : List ℕ} {k n at : ℕ} (m : ℕ) (f : Unit → Prog A)
+    → Skips s k n (f tt) (at + m) → Skips s k n (bind (skip m) f) at
+unfolding skip bind
+next-skip m f h = past h
+
+-- a skip that was read ends n bytes on
+pub skip-ok : (s : List ℕ) (at n m : ℕ) → run (skip n) s at ≡ ok tt m → at + n ≡ m
+unfolding skip
+skip-ok s at n m e = ret-ok s (at + n) m tt tt (pass-ok s at m tt n (ret tt) e .1) .1
+
+module _ {s : List ℕ} {at : ℕ} where
+  -- "Every byte a `skip` passes"
+  pub skip-passed : (n : ℕ) → Skips s at n (skip n) at
+  unfolding skip
+  skip-passed n = here
+
+  -- the contents of a string whose length byte alone counts
+  pub unused-passed : Skips s (at + 4 + 1) (getD s (at + 4) 0) intByteStringUnusedPast at
+  unfolding intByteStringUnusedPast skip u8 bind
+  unused-passed = past (after-byte here)
+
+  -- "the length byte inside `int_byte_string`"
+  pub length-byte-passed : Skips s (at + 4) 1 intByteString at
+  unfolding intByteString skip bind
+  length-byte-passed = next-number 4 _ (λ _. here)
+
+  -- "bytes of a fixed field past its stated length"
+  pub fixed-passed : (width : ℕ) → getD s at 0 ≤ width
+      → Skips s (at + 1 + getD s at 0) (width - getD s at 0) (fixedString width) at
+  unfolding fixedString textBytes skip u8 bind
+  fixed-passed width l = after-byte (skips-le _ _ l (after-text here))
+
+-- of a string with a size the length byte inside, and the contents, of size less one
+module _ {s : List ℕ} {at : ℕ} where
+  size-length-passed : Skips s (at + 4) 1 intByteStringPast at
+  unfolding intByteStringPast skip bind
+  size-length-passed = next-number 4 _ (λ _. here)
+
+  size-contents-passed : (size : ℕ) → run u32 s at ≡ ok size (at + 4) → lessOne size ≤ MAXSTRING
+      → Skips s (at + 4 + 1) (lessOne size) intByteStringPast at
+  unfolding intByteStringPast stringPast
+  size-contents-passed size e l = skips-after _ _ _ _ _ e (next-skip 1 _ (skips-le _ _ l (skip-passed _)))
+
+-- ---- strings that are passed over, where they stand
+module _ {A : Type 0} {s : List ℕ} {p : Prog A} {at from : ℕ} where
+  pub contents-passed : Stands s intByteStringUnusedPast at p from → Skips s (at + 4 + 1) (getD s (at + 4) 0) p from
+  contents-passed w = stands-skips w unused-passed
+
+  pub string-passed : Stands s intByteStringPast at p from → StringPassed s at p from
+  string-passed w = record {
+    length-byte = stands-skips w size-length-passed;
+    contents = λ size e l. stands-skips w (size-contents-passed size e l);
+  }
+
+-- a string that is passed over in a field is so in all
+pub string-in : {A B : Type 0} {s : List ℕ} {p : Prog A} {q : Prog B} {at m from : ℕ}
+    → Stands s p m q from → StringPassed s at p m → StringPassed s at q from
+string-in w h = record {
+  length-byte = stands-skips w (h .length-byte);
+  contents = λ size e l. stands-skips w (h .contents size e l);
+}

@@ -1,0 +1,13 @@
+pub mod Memory
+pub mod Rows
+pub mod Walk
+pub mod Notes
+pub mod File
+pub mod Before
+pub mod Finished
+pub mod Counted
+pub mod Entered
+pub mod Tied
+pub mod Shown
+pub mod Engraver
+pub mod Neighbours
