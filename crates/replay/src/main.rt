@@ -17,16 +17,34 @@ use show::record::WORDS;
 // Bytes of a list.
 const ROOM: usize = 1048576;
 
+// Bytes of an input that the list has in short, and the byte that it leaves out of it.
+const STRETCHED: usize = 1056768;
+
+const FILL: u8 = 120;
+
 const STDERR: i32 = 2;
 
-// What differs, and where the list goes on.
+// How many records were replayed, how many of them differ, and where the list goes on.
 struct Replayed {
+    number: u32,
     differ: u32,
     next: Place,
 }
 
-// The words of a record of this input, which is read.
-fn read_words(words: &mut [u32; WORDS], page: &mut [u8; PAGE], number: u32, input: &[u8]) {
+// In how many words a record differs, and where the list goes on.
+struct Compared {
+    differ: u32,
+    next: Place,
+}
+
+// The words of a record of this input, which is read; the list has so many bytes of it.
+fn read_words(
+    words: &mut [u32; WORDS],
+    page: &mut [u8; PAGE],
+    number: u32,
+    length: u32,
+    input: &[u8],
+) {
     let mut bars = [0u32; 4 * BAR_WORDS];
     let mut tracks = [0u32; 100 * TRACK_WORDS];
     let mut rows = [0u32; 1024 * ROW_WORDS];
@@ -55,7 +73,7 @@ fn read_words(words: &mut [u32; WORDS], page: &mut [u8; PAGE], number: u32, inpu
         &texts,
     );
     let s = show::flush(page, s);
-    show::record::answer_words(words, number, tables::low(input.len()), answer, s.digest);
+    show::record::answer_words(words, number, length, answer, s.digest);
 }
 
 // Names the words in which the record at a place differs, in a line; gives how many they are.
@@ -89,40 +107,125 @@ fn name_differences(page: &mut [u8; PAGE], list: &[u8], from: Place, words: &[u3
     differ
 }
 
-// One record: in how many words it differs.
-fn replay_one(page: &mut [u8; PAGE], list: &[u8], from: Place, number: u32) -> Replayed {
+// A record of an input that the list has whole.
+fn replay_whole(page: &mut [u8; PAGE], list: &[u8], from: Place, number: u32) -> Compared {
     let Body::Within(start, end) = show::record::body_at(list, from) else {
-        return Replayed {
+        return Compared {
             differ: 0,
             next: Place::Stopped(Stop::Ends),
         };
     };
     let mut words = [0u32; WORDS];
-    read_words(&mut words, page, number, bin::text(list, start, end));
+    let input = bin::text(list, start, end);
+    read_words(&mut words, page, number, tables::low(input.len()), input);
     let differ = name_differences(page, list, from, &words);
-    Replayed {
+    Compared {
         differ,
         next: Place::At(end),
     }
 }
 
-// Every record, as far as the list goes: how many differ.
-fn replay_all(page: &mut [u8; PAGE], list: &[u8], count: u32) -> Replayed {
-    let mut at = Place::At(8);
-    let mut differ: u32 = 0;
+// Bytes from the start of a room on, as far as it goes.
+fn put(room: &mut [u8], bytes: &[u8]) {
+    let mut i: usize = 0;
+    while i < bytes.len() {
+        if room.len() <= i {
+            return;
+        }
+        room[i] = bytes[i];
+        i += 1;
+    }
+}
+
+// Bytes from a place of a room on, as far as it goes.
+fn put_at(room: &mut [u8], at: usize, bytes: &[u8]) {
+    if room.len() < at {
+        return;
+    }
+    put(&mut room[at..], bytes);
+}
+
+// A record of an input that the list has in short: before the record stand the place where bytes are left out and their number.
+fn replay_short(
+    page: &mut [u8; PAGE],
+    list: &[u8],
+    from: Place,
+    number: u32,
+    input: &mut [u8; STRETCHED],
+) -> Compared {
+    let place = bin::u32_at(list, from);
+    let after_place = place.next;
+    let more = bin::u32_at(list, after_place);
+    let record = more.next;
+    let Body::Within(start, end) = show::record::body_at(list, record) else {
+        return Compared {
+            differ: 0,
+            next: Place::Stopped(Stop::Ends),
+        };
+    };
+    let left = bin::text(list, start, end);
+    let length = tables::low(left.len());
+    let at = place.value as usize;
+    let run = more.value as usize;
+    put(input, bin::text(left, 0, at));
+    put_at(input, at + run, bin::text(left, at, left.len()));
+    let mut words = [0u32; WORDS];
+    let whole = (length as usize) + run;
+    read_words(&mut words, page, number, length, bin::text(input, 0, whole));
+    let differ = name_differences(page, list, record, &words);
+    Compared {
+        differ,
+        next: Place::At(end),
+    }
+}
+
+fn replay_one(
+    page: &mut [u8; PAGE],
+    list: &[u8],
+    from: Place,
+    number: u32,
+    short: bool,
+) -> Compared {
+    if short {
+        let mut input = [FILL; STRETCHED];
+        return replay_short(page, list, from, number, &mut input);
+    }
+    replay_whole(page, list, from, number)
+}
+
+// So many records more, as far as the list goes.
+fn replay_all(
+    page: &mut [u8; PAGE],
+    list: &[u8],
+    before: Replayed,
+    count: u32,
+    short: bool,
+) -> Replayed {
+    let mut at = before.next;
+    let mut differ = before.differ;
+    let mut number = before.number;
     let mut i: u32 = 0;
     while i < count {
-        let one = replay_one(page, list, at, i);
+        let one = replay_one(page, list, at, number, short);
         at = one.next;
         let Place::At(_) = at else {
-            return Replayed { differ, next: at };
+            return Replayed {
+                number,
+                differ,
+                next: at,
+            };
         };
         if 0 < one.differ {
             differ = tables::up(differ);
         }
+        number = tables::up(number);
         i += 1;
     }
-    Replayed { differ, next: at }
+    Replayed {
+        number,
+        differ,
+        next: at,
+    }
 }
 
 fn replay(input: &mut [u8; ROOM]) {
@@ -136,8 +239,22 @@ fn replay(input: &mut [u8; ROOM]) {
         return;
     }
     let mut page = io::large_buffer();
+    let none = Replayed {
+        number: 0,
+        differ: 0,
+        next: Place::At(8),
+    };
     let count = bin::u32_at(list, Place::At(4)).value;
-    let all = replay_all(&mut page, list, count);
+    let whole = replay_all(&mut page, list, none, count, false);
+    let after_whole = whole.next;
+    let more = bin::u32_at(list, after_whole);
+    let after_count = more.next;
+    let from = Replayed {
+        number: whole.number,
+        differ: whole.differ,
+        next: after_count,
+    };
+    let all = replay_all(&mut page, list, from, more.value, true);
     let next = all.next;
     let Place::At(end) = next else {
         io::write_all(STDERR, b"replay: the list ends within a record\n");
@@ -151,7 +268,7 @@ fn replay(input: &mut [u8; ROOM]) {
         &mut page,
         show::PRINTED,
         b"replay: #0 inputs, #1 differ\n",
-        &[count, all.differ],
+        &[all.number, all.differ],
         2,
         1,
     );

@@ -4,7 +4,7 @@ use crate::dice::Dice;
 use crate::domain::LONGEST;
 use crate::generate::make;
 use crate::plan::{Field, Plan, REFUSED_VERSIONS, VERSIONS};
-use crate::writer::{COUNTS, Count, LONGEST_TEXT, Made};
+use crate::writer::{COUNTS, Count, FILL, LONGEST_TEXT, Made};
 
 pub struct Case {
     pub name: String,
@@ -297,6 +297,95 @@ pub fn at_limits(large: bool) -> Vec<Case> {
     plans
         .map(|(_, name, plan)| case(format!("at-limit-{name}"), plain(&plan).bytes))
         .collect()
+}
+
+/// Inputs that each tell a wrong reading from the right one where no other of the fixed list does:
+/// bend positions that are rounded, an ottava run left open by a rest, the limit of texts.
+pub fn telling() -> Vec<Case> {
+    let mut cases = vec![
+        case("bend-at-every-offset", bend_at_every_offset()),
+        case(
+            "ottava-run-and-rest-of-another-kind",
+            ottava_run(OCTAVE_DOWN),
+        ),
+        case("ottava-run-and-rest-of-no-kind", ottava_run(0)),
+    ];
+    for length in [LONGEST_TEXT, LONGEST_TEXT + 1] {
+        cases.push(case(format!("lyric-of-{length}-bytes"), with_lyric(length)));
+        cases.push(case(
+            format!("page-text-of-{length}-bytes"),
+            with_page_text(length),
+        ));
+        cases.push(case(
+            format!("marker-of-{length}-bytes"),
+            with_marker(length),
+        ));
+    }
+    cases
+}
+
+/// A bend with a point at each offset from 0 to 60, each of another height.
+fn bend_at_every_offset() -> Vec<u8> {
+    let mut plan = Plan::smallest(VERSIONS[0]);
+    plan.strings = Some(1);
+    plan.beats = (1, 1);
+    plan.points = (61, 61);
+    for field in [Field::String, Field::NoteEffects, Field::Bend] {
+        plan = plan.with(field, 100);
+    }
+    let mut made = plain(&plan);
+    let first = place_of(&made, Count::Points) + 4;
+    for offset in 0..61 {
+        made.set_i32(first + 9 * offset, offset as i32);
+        made.set_i32(first + 9 * offset + 4, 10 * offset as i32);
+    }
+    made.bytes
+}
+
+/// The bits of a beat that is played an octave higher, and lower.
+const OCTAVE_UP: u8 = 0x10;
+const OCTAVE_DOWN: u8 = 0x20;
+
+/// Two notes an octave higher, and between them a rest with these bits.
+fn ottava_run(rest: u8) -> Vec<u8> {
+    let mut plan = Plan::smallest(VERSIONS[3]);
+    plan.strings = Some(1);
+    let mut made = plain(&plan);
+    let beats = place_of(&made, Count::Beats);
+    made.set_i32(beats, 3);
+    // Flags, duration, strings, of a note its flags and accidental, and two bytes of beat flags.
+    let note = [0, 0, 0x40, 0, 0, OCTAVE_UP, 0];
+    let three = [&note[..], &[0, 0, 0, rest, 0], &note[..]].concat();
+    made.bytes.splice(beats + 4..beats + 4, three);
+    made.bytes
+}
+
+fn with_lyric(length: usize) -> Vec<u8> {
+    let mut plan = Plan::smallest(VERSIONS[1]);
+    plan.lyric_lengths[0] = length;
+    plain(&plan).bytes
+}
+
+/// The size before a page text is one more than its length.
+fn with_page_text(length: usize) -> Vec<u8> {
+    let mut made = plain(&Plan::smallest(VERSIONS[3]));
+    let size = made.sizes[5];
+    made.set_i32(size, length as i32 + 1);
+    made.bytes.splice(size + 5..size + 5, vec![FILL; length]);
+    made.bytes
+}
+
+/// A marker's text is kept, and its size is one more than its length too.
+fn with_marker(length: usize) -> Vec<u8> {
+    let mut made = plain(&Plan::smallest(VERSIONS[0]));
+    let header = place_of(&made, Count::Tracks) + 4;
+    made.bytes[header] = 0x20;
+    let mut marker = (length as i32 + 1).to_le_bytes().to_vec();
+    marker.push(0);
+    marker.extend(vec![FILL; length]);
+    marker.extend([0; 4]); // colour
+    made.bytes.splice(header + 1..header + 1, marker);
+    made.bytes
 }
 
 /// A small file of each of the five versions with nearly every optional field.

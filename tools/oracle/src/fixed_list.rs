@@ -10,7 +10,9 @@ use crate::generate::make;
 use crate::judge::{Verdict, judge};
 use crate::plan::Plan;
 use crate::trial::dice_of;
+use crate::writer::FILL;
 use std::fmt::Write;
+use std::ops::Range;
 use std::path::Path;
 
 const MAGIC: &[u8; 4] = b"GPFL";
@@ -27,6 +29,8 @@ const VARIED: usize = 110;
 const VARIED_MEMBERS: usize = 8;
 /// Words of a record before the input's bytes.
 const WORDS: usize = 20 + LOSS_CODES.len();
+/// A longer input is written in short: its longest run of filling bytes is left out.
+const WHOLE: usize = 32_768;
 
 /// Writes the list and, one line to a record, what each input is.
 pub fn write(list: &Path, index: &Path) -> bool {
@@ -34,28 +38,73 @@ pub fn write(list: &Path, index: &Path) -> bool {
         fail("the fixed list is chosen by branches: use oracle-branches");
     }
     let cases = all();
+    let (whole, short): (Vec<&Case>, Vec<&Case>) =
+        cases.iter().partition(|case| case.bytes.len() <= WHOLE);
     let mut bytes = MAGIC.to_vec();
-    bytes.extend_from_slice(&(cases.len() as u32).to_le_bytes());
     let mut lines = String::new();
-    for (number, case) in cases.iter().enumerate() {
-        let words = record(number, &case.bytes);
-        words
-            .iter()
-            .for_each(|word| bytes.extend_from_slice(&word.to_le_bytes()));
-        bytes.extend_from_slice(&case.bytes);
-        let (length, outcome) = (words[1], words[2]);
-        writeln!(
-            lines,
-            "{number} {length} bytes, outcome {outcome}: {}",
-            case.name
-        )
-        .expect("a string grows");
+    push_word(&mut bytes, whole.len());
+    for (number, case) in whole.iter().enumerate() {
+        push_record(&mut bytes, &record(number, &case.bytes), &case.bytes);
+        line(&mut lines, number, case);
+    }
+    push_word(&mut bytes, short.len());
+    for (number, case) in (whole.len()..).zip(&short) {
+        let run = longest_run(&case.bytes);
+        let left = [&case.bytes[..run.start], &case.bytes[run.end..]].concat();
+        push_word(&mut bytes, run.start);
+        push_word(&mut bytes, run.len());
+        push_record(&mut bytes, &short_record(number, &case.bytes, &left), &left);
+        line(&mut lines, number, case);
     }
     let written = std::fs::write(list, &bytes).and_then(|()| std::fs::write(index, &lines));
     written.unwrap_or_else(|error| fail(&error.to_string()));
     report(&cases, bytes.len());
     crate::trial::report_branches();
     true
+}
+
+fn push_word(bytes: &mut Vec<u8>, word: usize) {
+    let word = u32::try_from(word).expect("a word");
+    bytes.extend_from_slice(&word.to_le_bytes());
+}
+
+fn push_record(bytes: &mut Vec<u8>, words: &[u32], input: &[u8]) {
+    words
+        .iter()
+        .for_each(|word| bytes.extend_from_slice(&word.to_le_bytes()));
+    bytes.extend_from_slice(input);
+}
+
+/// What is said of an input: how long it is, what comes of it, its name.
+fn line(lines: &mut String, number: usize, case: &Case) {
+    let words = record(number, &case.bytes);
+    let (length, outcome) = (words[1], words[2]);
+    writeln!(
+        lines,
+        "{number} {length} bytes, outcome {outcome}: {}",
+        case.name
+    )
+    .expect("a string grows");
+}
+
+/// The first of the longest runs of filling bytes.
+fn longest_run(bytes: &[u8]) -> Range<usize> {
+    let (mut best, mut start) = (0..0, 0);
+    for (at, byte) in bytes.iter().enumerate() {
+        if *byte != FILL {
+            start = at + 1;
+        } else if at + 1 - start > best.len() {
+            best = start..at + 1;
+        }
+    }
+    best
+}
+
+/// The words of an input that is written in short: its length is that of what is left.
+fn short_record(number: usize, input: &[u8], left: &[u8]) -> Vec<u32> {
+    let mut words = record(number, input);
+    words[1] = left.len() as u32;
+    words
 }
 
 /// What a program that replays the list must have room for.
@@ -83,7 +132,11 @@ fn all() -> Vec<Case> {
         .chain(varied())
         .collect();
     let chosen = choose(&named, candidates());
-    named.into_iter().chain(chosen).collect()
+    named
+        .into_iter()
+        .chain(chosen)
+        .chain(cases::telling())
+        .collect()
 }
 
 fn blanked_pairs() -> Vec<Case> {
@@ -231,20 +284,32 @@ pub fn replay(list: &[u8]) -> bool {
     if !list.starts_with(MAGIC) {
         fail("this is no fixed list");
     }
-    let count = words_at(4, 1)[0] as usize;
-    let (mut at, mut wrong) = (8, 0);
-    for number in 0..count {
-        let words = words_at(at, WORDS);
-        at += WORDS * 4;
-        let input = &list[at..at + words[1] as usize];
-        at += input.len();
-        if record(number, input) != words {
-            println!("record {number} differs");
-            wrong += 1;
+    let (mut at, mut number, mut wrong) = (4, 0, 0);
+    for in_short in [false, true] {
+        let count = words_at(at, 1)[0];
+        at += 4;
+        for _ in 0..count {
+            let mut run = vec![0, 0];
+            if in_short {
+                run = words_at(at, 2);
+                at += 8;
+            }
+            let words = words_at(at, WORDS);
+            at += WORDS * 4;
+            let left = &list[at..at + words[1] as usize];
+            at += left.len();
+            let mut input = left.to_vec();
+            let place = run[0] as usize;
+            input.splice(place..place, vec![FILL; run[1] as usize]);
+            if short_record(number, &input, left) != words {
+                println!("record {number} differs");
+                wrong += 1;
+            }
+            number += 1;
         }
     }
     println!(
-        "{count} records, {wrong} differ, {} bytes left over",
+        "{number} records, {wrong} differ, {} bytes left over",
         list.len() - at
     );
     wrong == 0 && at == list.len()

@@ -3,7 +3,7 @@
 
 use crate::dice::Dice;
 use crate::plan::{Field, Plan};
-use crate::writer::{Count, Made};
+use crate::writer::{Count, FILL, Made};
 
 const BLANKS: [u8; 7] = [9, 10, 11, 12, 13, 32, 160];
 
@@ -112,7 +112,7 @@ impl Maker<'_> {
         let blanks = self.chance(Field::Blanks);
         let wild = self.chance(Field::Wild);
         if length > 255 {
-            return vec![b'x'; length];
+            return vec![FILL; length];
         }
         (0..length)
             .map(|_| match self.dice.below(6) {

@@ -25,6 +25,9 @@ pub const COUNTS: [(Count, usize); 6] = [
 
 pub const LONGEST_TEXT: usize = 1_048_576;
 
+/// What long texts are made of.
+pub const FILL: u8 = b'x';
+
 #[derive(Clone, Default)]
 pub struct Made {
     pub bytes: Vec<u8>,

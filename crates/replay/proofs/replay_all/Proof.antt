@@ -5,10 +5,10 @@ use Rattle.replay.proofs.replay_all.Statement.{statement}
 use Rattle.replay.proofs.replay_all.Tie as tie
 
 abbrev Inv-loop : tie.InvT-loop
-Inv-loop page₀ list count at₀ differ₀ i₀ page at differ i = i ≤ count
+Inv-loop page₀ list count short at₀ differ₀ number₀ i₀ page at differ number i = i ≤ count
 
 abbrev μ-loop : tie.MeasureT-loop
-μ-loop page₀ list count at₀ differ₀ i₀ page at differ i = count - i
+μ-loop page₀ list count short at₀ differ₀ number₀ i₀ page at differ number i = count - i
 
 pub replay-all-spec : {M : Type 1} → statement M
 replay-all-spec =
@@ -21,6 +21,7 @@ replay-all-spec =
     (λ c. search needs)
     (λ c. search needs)
     (λ c. search needs)
+    (λ c κs. search needs)
     (λ c κs. search needs)
     (λ c. search needs)
     (λ c. search needs)
