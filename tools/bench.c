@@ -1,7 +1,8 @@
 /* Reads the file on standard input, from memory, as many times as the first argument says, and writes the outcome and the
-   bytes used: for tools/bench, linked with the crate `export`. The second argument says how:
+   bytes used: for tools/bench and tools/long-files, linked with the crate `export`. The second argument says how:
      (none)  into tables of the rooms that the file needs, lent once
      user    as a caller does it each time: asks for the rooms, allocates the tables, reads, frees them
+     words   as with none, and writes all fourteen words that are said of the reading
      stack   once, and writes how many bytes of the stack the reading touches */
 #include <stdint.h>
 #include <stdio.h>
@@ -83,6 +84,11 @@ int main(int count, char **word) {
     for (long left = atol(word[1]); left > 0; left--)
         if (how == 'u') as_a_user(data, bytes);
         else reading(data, bytes);
+    if (how == 'w') {
+        for (int i = 0; i < SAID; i++) printf(i ? " %u" : "%u", said[i]);
+        printf("\n");
+        return 0;
+    }
     printf("%u %u\n", said[OUTCOME], said[OUTCOME] ? 0 : said[USED]);
     return 0;
 }
