@@ -2,7 +2,7 @@
 -- each voice.
 use Prim.Native.Nat.{ℕ, zero, suc, _+_, _<_}
 use native.Mathlib.Omega.{arith}
-use mathlib.Core.Path.{_≡_, refl, sym, _∙_}
+use mathlib.Core.Path.{_≡_, refl}
 use mathlib.Core.List.{List}
 use Rattle.format.specs.declared.Counted.the-variants as C
 use Rattle.format.specs.Prog.{Prog, ret, bind, turns}

@@ -32,10 +32,6 @@ module _ (strings track voice : ℕ) (es : List Event) where
   abbrev pub allRead : Memory
   allRead = readFrom 7 0
 
-  length-from : (k i : ℕ) → length (readFrom k i) ≡ k
-  length-from zero i = refl
-  length-from (suc k) i = ap suc (length-from k (i + 1))
-
   from-at : (k i j : ℕ) → j < k → getD (readFrom k i) j nothing ≡ readOn (i + j)
   from-at zero i j h = absurd (omega arith)
   from-at (suc k) i zero h = ap readOn (omega arith)
