@@ -76,7 +76,8 @@ fn any_chord_name(s: &[u8], from: Place, v: u32) -> Kept
 
 // The chord's name, where the beat's flags say that it has a chord.
 pub(crate) fn chord_at(s: &[u8], from: Place, v: u32, flags: u8, b: &mut Beat) -> Place
-    ensures { λ r. ⌜ meaning.Stores (format.chordName v flags) (now (s .entry)) from meaning.CHORD-START (now (b .entry)) (now (b .exit)) (textIn (now (s .entry)) (meaning.chordIn flags (now (b .exit)))) r ⌝ }
+    ensures { λ r. ⌜ meaning.Stores (format.chordName v flags) (now (s .entry)) from meaning.CHORD-START (now (b .entry))
+        (now (b .exit)) (textIn (now (s .entry)) (meaning.chordIn flags (now (b .exit)))) r ⌝ }
 {
     if flags & 0x02 == 0 {
         return from;
@@ -89,7 +90,8 @@ pub(crate) fn chord_at(s: &[u8], from: Place, v: u32, flags: u8, b: &mut Beat) -
 
 // The beat's text, where its flags say that it has one.
 pub(crate) fn text_at(s: &[u8], from: Place, flags: u8, b: &mut Beat) -> Place
-    ensures { λ r. ⌜ meaning.Stores (format.beatText flags) (now (s .entry)) from meaning.TEXT-START (now (b .entry)) (now (b .exit)) (textIn (now (s .entry)) (meaning.textRange flags (now (b .exit)))) r ⌝ }
+    ensures { λ r. ⌜ meaning.Stores (format.beatText flags) (now (s .entry)) from meaning.TEXT-START (now (b .entry))
+        (now (b .exit)) (textIn (now (s .entry)) (meaning.textRange flags (now (b .exit)))) r ⌝ }
 {
     if flags & 0x04 == 0 {
         return from;

@@ -42,7 +42,8 @@ struct Tapping {
 
 fn tapping_at(s: &[u8], at: usize, v: u32, flags: u8, b: &mut Beat) -> usize
     requires { ⌜ Near 5 at ⌝ }
-    ensures { λ r. ⌜ Fills (format.tapping v flags) 5 (now (s .entry)) at meaning.TAPPING (now (b .entry)) (now (b .exit)) (meaning.tappingIn v flags (now (b .exit))) r ⌝ }
+    ensures { λ r. ⌜ Fills (format.tapping v flags) 5 (now (s .entry)) at meaning.TAPPING (now (b .entry)) (now (b .exit))
+        (meaning.tappingIn v flags (now (b .exit))) r ⌝ }
 {
     if flags & 0x20 == 0 {
         return at;
@@ -63,7 +64,9 @@ fn tremolo_bar(s: &[u8], from: Place, more: u8) -> Place
 // Which of the two bytes is up is told by the version: any.
 fn brush_at(s: &[u8], at: usize, flags: u8, b: &mut Beat) -> usize
     requires { ⌜ Near 2 at ⌝ }
-    ensures { λ r. ⌜ ((v : ℕ) → Fills (format.brush v flags) 2 (now (s .entry)) at meaning.BRUSH-FIRST (now (b .entry)) (now (b .exit)) (meaning.brushIn v flags (now (b .exit))) r) ⌝ }
+    ensures { λ r. ⌜ ((v : ℕ)
+        → Fills (format.brush v flags) 2 (now (s .entry)) at meaning.BRUSH-FIRST (now (b .entry)) (now (b .exit))
+        (meaning.brushIn v flags (now (b .exit))) r) ⌝ }
 {
     if flags & 0x40 == 0 {
         return at;
@@ -85,7 +88,9 @@ fn strokes_at(s: &[u8], at: usize, flags: u8, more: u8, b: &mut Beat) -> Place
 // What stands behind the first flags. The bar is read from place to place: a count of points may be refused.
 fn effects_end(s: &[u8], at: usize, v: u32, flags: u8, b: &mut Beat) -> Place
     requires { ⌜ Near 6 at ⌝ }
-    ensures { λ r. ⌜ FillsTo (meaning.effectsEnd v flags) (now (s .entry)) at meaning.MORE-EFFECTS (now (b .entry)) (now (b .exit)) (meaning.effectsWith v flags (byteIn (now (b .exit)) meaning.MORE-EFFECTS) (now (b .exit))) r ⌝ }
+    ensures { λ r. ⌜
+        FillsTo (meaning.effectsEnd v flags) (now (s .entry)) at meaning.MORE-EFFECTS (now (b .entry)) (now (b .exit))
+        (meaning.effectsWith v flags (byteIn (now (b .exit)) meaning.MORE-EFFECTS) (now (b .exit))) r ⌝ }
 {
     let at = put_if(s, at, 400 <= v, b, places::MORE_EFFECTS);
     let more = places::byte_of(b, places::MORE_EFFECTS);
@@ -99,7 +104,8 @@ fn effects_end(s: &[u8], at: usize, v: u32, flags: u8, b: &mut Beat) -> Place
 
 // The effects of a beat, where its flags say that it has any.
 pub(crate) fn effects_at(s: &[u8], from: Place, v: u32, flags: u8, b: &mut Beat) -> Place
-    ensures { λ r. ⌜ meaning.Stores (format.beatEffects v flags) (now (s .entry)) from meaning.EFFECTS (now (b .entry)) (now (b .exit)) (meaning.effectsIn v (now (b .exit))) r ⌝ }
+    ensures { λ r. ⌜ meaning.Stores (format.beatEffects v flags) (now (s .entry)) from meaning.EFFECTS (now (b .entry))
+        (now (b .exit)) (meaning.effectsIn v (now (b .exit))) r ⌝ }
 {
     if flags & 0x08 == 0 {
         put(b, places::EFFECTS, 0);

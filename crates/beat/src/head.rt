@@ -22,7 +22,8 @@ pub struct Head {
 
 fn status_at(s: &[u8], at: usize, flags: u8, b: &mut Beat) -> usize
     requires { ⌜ Near 1 at ⌝ }
-    ensures { λ r. ⌜ Fills (format.status flags) 1 (now (s .entry)) at meaning.STATUS (now (b .entry)) (now (b .exit)) (byteIn (now (b .exit)) meaning.STATUS) r ⌝ }
+    ensures { λ r. ⌜ Fills (format.status flags) 1 (now (s .entry)) at meaning.STATUS (now (b .entry)) (now (b .exit))
+        (byteIn (now (b .exit)) meaning.STATUS) r ⌝ }
 {
     if flags & 0x40 == 0 {
         put(b, places::STATUS, 0x02);
@@ -34,7 +35,8 @@ fn status_at(s: &[u8], at: usize, flags: u8, b: &mut Beat) -> usize
 
 fn tuplet_at(s: &[u8], at: usize, flags: u8, b: &mut Beat) -> usize
     requires { ⌜ Near 4 at ⌝ }
-    ensures { λ r. ⌜ Fills (format.tuplet flags) 4 (now (s .entry)) at meaning.TUPLET (now (b .entry)) (now (b .exit)) (meaning.numberIn (now (b .exit)) meaning.TUPLET) r ⌝ }
+    ensures { λ r. ⌜ Fills (format.tuplet flags) 4 (now (s .entry)) at meaning.TUPLET (now (b .entry)) (now (b .exit))
+        (meaning.numberIn (now (b .exit)) meaning.TUPLET) r ⌝ }
 {
     if flags & 0x20 == 0 {
         store(b, places::TUPLET, 0);
@@ -48,7 +50,8 @@ fn tuplet_at(s: &[u8], at: usize, flags: u8, b: &mut Beat) -> usize
 // What stands behind the flags.
 fn head_end(s: &[u8], at: usize, flags: u8, b: &mut Beat) -> usize
     requires { ⌜ Near 6 at ⌝ }
-    ensures { λ r. ⌜ Fills (meaning.headEnd flags) 6 (now (s .entry)) at meaning.STATUS (now (b .entry)) (now (b .exit)) (meaning.headWith flags (now (b .exit))) r ⌝ }
+    ensures { λ r. ⌜ Fills (meaning.headEnd flags) 6 (now (s .entry)) at meaning.STATUS (now (b .entry)) (now (b .exit))
+        (meaning.headWith flags (now (b .exit))) r ⌝ }
 {
     let at = status_at(s, at, flags, b);
     put(b, places::DURATION, bin::ahead::byte(s, at));
@@ -57,7 +60,8 @@ fn head_end(s: &[u8], at: usize, flags: u8, b: &mut Beat) -> usize
 
 // Its fields are read to the last, past the end of the file as zeros: where they end says whether all were there.
 pub(crate) fn head_at(s: &[u8], from: Place, b: &mut Beat) -> Place
-    ensures { λ r. ⌜ meaning.Stores format.head (now (s .entry)) from meaning.FLAGS (now (b .entry)) (now (b .exit)) (meaning.headIn (now (b .exit))) r ⌝ }
+    ensures { λ r. ⌜ meaning.Stores format.head (now (s .entry)) from meaning.FLAGS (now (b .entry)) (now (b .exit))
+        (meaning.headIn (now (b .exit))) r ⌝ }
 {
     let first = bin::u8_at(s, from);
     let next = first.next;

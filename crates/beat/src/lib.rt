@@ -37,7 +37,8 @@ fn beat_notes(s: &[u8], from: Place, v: u32, b: &mut Beat, notes: &mut Notes) ->
 
 // The words of the next beat and of its notes, and where reading goes on.
 pub fn read_beat(s: &[u8], from: Place, v: u32, b: &mut Beat, notes: &mut Notes) -> Place
-    ensures { λ r. ⌜ Reaches (format.beat v) (now (s .entry)) from (meaning.beatIn (now (s .entry)) v (now (b .exit)) (now (notes .exit))) r ⌝ }
+    ensures { λ r. ⌜ Reaches (format.beat v) (now (s .entry)) from
+        (meaning.beatIn (now (s .entry)) v (now (b .exit)) (now (notes .exit))) r ⌝ }
 {
     let at = head::head_at(s, from, b);
     let flags = places::byte_of(b, places::FLAGS);

@@ -112,7 +112,8 @@ fn mix_strings_past(s: &[u8], from: Place, v: u32) -> Place
 
 // The tempo as the file has it, and the two losses: 1 for one, else 0.
 fn mix_end(s: &[u8], from: Place, v: u32, changed: bool, tempo: u32, b: &mut Beat) -> Place
-    ensures { λ r. ⌜ meaning.Stores (format.mixEnd v changed tempo) (now (s .entry)) from meaning.TEMPO (now (b .entry)) (now (b .exit)) (meaning.mixBy true (now (b .exit))) r ⌝ }
+    ensures { λ r. ⌜ meaning.Stores (format.mixEnd v changed tempo) (now (s .entry)) from meaning.TEMPO (now (b .entry))
+        (now (b .exit)) (meaning.mixBy true (now (b .exit))) r ⌝ }
 {
     let at = tempo_end(s, from, v, tempo);
     let wah = wah_at(s, skip_if(s, at, 400 <= v, 1), v);
@@ -138,7 +139,8 @@ fn mix_tempo(
     y: Signs,
     b: &mut Beat,
 ) -> Place
-    ensures { λ r. ⌜ meaning.Stores (format.mixTempo v instrument x y) (now (s .entry)) from meaning.TEMPO (now (b .entry)) (now (b .exit)) (meaning.mixBy true (now (b .exit))) r ⌝ }
+    ensures { λ r. ⌜ meaning.Stores (format.mixTempo v instrument x y) (now (s .entry)) from meaning.TEMPO (now (b .entry))
+        (now (b .exit)) (meaning.mixBy true (now (b .exit))) r ⌝ }
 {
     let tempo = bin::u32_at(s, tempo_name_past(s, from, v));
     let at = tempo.next;
@@ -147,7 +149,8 @@ fn mix_tempo(
 }
 
 fn mix_table(s: &[u8], from: Place, v: u32, b: &mut Beat) -> Place
-    ensures { λ r. ⌜ meaning.Stores (format.mixTable v) (now (s .entry)) from meaning.TEMPO (now (b .entry)) (now (b .exit)) (meaning.mixBy true (now (b .exit))) r ⌝ }
+    ensures { λ r. ⌜ meaning.Stores (format.mixTable v) (now (s .entry)) from meaning.TEMPO (now (b .entry)) (now (b .exit))
+        (meaning.mixBy true (now (b .exit))) r ⌝ }
 {
     let instrument = sign_at(s, from);
     let at = instrument.next;
@@ -162,7 +165,8 @@ fn mix_table(s: &[u8], from: Place, v: u32, b: &mut Beat) -> Place
 
 // The mix table, where the beat's flags say that it has one.
 pub(crate) fn mix_at(s: &[u8], from: Place, v: u32, flags: u8, b: &mut Beat) -> Place
-    ensures { λ r. ⌜ meaning.Stores (format.mix v flags) (now (s .entry)) from meaning.TEMPO (now (b .entry)) (now (b .exit)) (meaning.mixIn flags (now (b .exit))) r ⌝ }
+    ensures { λ r. ⌜ meaning.Stores (format.mix v flags) (now (s .entry)) from meaning.TEMPO (now (b .entry)) (now (b .exit))
+        (meaning.mixIn flags (now (b .exit))) r ⌝ }
 {
     if flags & 0x10 == 0 {
         return from;

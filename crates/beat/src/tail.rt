@@ -33,7 +33,8 @@ pub(crate) fn tail_of(s: &[u8], at: usize, v: u32) -> Tail
 
 pub(crate) fn tail_at(s: &[u8], at: usize, v: u32, b: &mut Beat) -> usize
     requires { ⌜ Near 3 at ⌝ }
-    ensures { λ r. ⌜ Fills (format.tail v) 3 (now (s .entry)) at meaning.OTTAVA (now (b .entry)) (now (b .exit)) (meaning.ottavaIn (now (b .exit))) r ⌝ }
+    ensures { λ r. ⌜ Fills (format.tail v) 3 (now (s .entry)) at meaning.OTTAVA (now (b .entry)) (now (b .exit))
+        (meaning.ottavaIn (now (b .exit))) r ⌝ }
 {
     let tail = tail_of(s, at, v);
     store(b, places::OTTAVA, tail.flags as usize);

@@ -78,7 +78,8 @@ fn harmonic(b: &Beat, notes: &Notes, string: usize, v: u32) -> bool
 }
 
 pub(crate) fn with_note(m: Marks, b: &Beat, notes: &Notes, string: usize, v: u32) -> Marks
-    ensures { λ r. ⌜ addedIn r ≡ addMarks (addedIn m) (rule.noteMarks (effectsIn v (now (b .entry))) (readIn v (now (notes .entry)) string)) ⌝ }
+    ensures { λ r. ⌜ addedIn r
+        ≡ addMarks (addedIn m) (rule.noteMarks (effectsIn v (now (b .entry))) (readIn v (now (notes .entry)) string)) ⌝ }
 {
     let tremolo = field::tremolo(notes, string);
     let m = with_accent(m, notes, string);

@@ -198,7 +198,8 @@ pub fn loss_number(x: Loss) -> usize
 
 // One more report, in the slice that counts them.
 pub fn add_loss(counts: &mut [u32], x: Loss)
-    ensures { λ _. ⌜ now (counts .exit) ≡ set (now (counts .entry)) (lossNumber x) (oneMore (getD (now (counts .entry)) (lossNumber x) 0)) ⌝ }
+    ensures { λ _. ⌜ now (counts .exit)
+        ≡ set (now (counts .entry)) (lossNumber x) (oneMore (getD (now (counts .entry)) (lossNumber x) 0)) ⌝ }
 {
     let n = loss_number(x);
     let more = tables::up(tables::load(counts, n));

@@ -156,7 +156,9 @@ pub fn left_hand(w: &Notes, i: usize) -> LeftHand
 }
 
 fn dynamic(w: &Notes, i: usize) -> Level
-    ensures { λ r. ⌜ r ≡ meaning.dynamicIn (meaning.byteIn (now (w .entry)) (meaning.start i + meaning.FLAGS)) (now (w .entry)) (meaning.start i) ⌝ }
+    ensures { λ r. ⌜ r
+        ≡ meaning.dynamicIn (meaning.byteIn (now (w .entry)) (meaning.start i + meaning.FLAGS)) (now (w .entry))
+        (meaning.start i) ⌝ }
 {
     if byte(w, i, places::FLAGS) & 0x10 == 0 {
         return Level::Absent;

@@ -50,7 +50,9 @@ pub struct NoteRead {
 
 fn hands_at(s: &[u8], at: usize, flags: u8, w: &mut Notes, o: usize) -> usize
     requires { ⌜ Near 2 at × (o ≤ 126) ⌝ }
-    ensures { λ r. ⌜ meaning.Fills (format.hands flags) 2 (now (s .entry)) at (o + meaning.LEFT) (now (w .entry)) (now (w .exit)) (meaning.handsIn flags (now (w .exit)) o) r ⌝ }
+    ensures { λ r. ⌜
+        meaning.Fills (format.hands flags) 2 (now (s .entry)) at (o + meaning.LEFT) (now (w .entry)) (now (w .exit))
+        (meaning.handsIn flags (now (w .exit)) o) r ⌝ }
 {
     if flags & 0x80 == 0 {
         return at;
@@ -62,7 +64,8 @@ fn hands_at(s: &[u8], at: usize, flags: u8, w: &mut Notes, o: usize) -> usize
 
 fn accidental_at(s: &[u8], at: usize, v: u32, flags: u8, w: &mut Notes, o: usize) -> usize
     requires { ⌜ Near 9 at × (o ≤ 126) ⌝ }
-    ensures { λ r. ⌜ meaning.Fills (format.accidental v flags) 9 (now (s .entry)) at (o + meaning.TURNED) (now (w .entry)) (now (w .exit)) (meaning.byteIn (now (w .exit)) (o + meaning.TURNED)) r ⌝ }
+    ensures { λ r. ⌜ meaning.Fills (format.accidental v flags) 9 (now (s .entry)) at (o + meaning.TURNED) (now (w .entry))
+        (now (w .exit)) (meaning.byteIn (now (w .exit)) (o + meaning.TURNED)) r ⌝ }
 {
     let late = 500 <= v;
     let next = pass_if(at, late & (flags & 0x01 != 0), 8);
@@ -81,7 +84,8 @@ fn note_end(s: &[u8], at: usize, v: u32, flags: u8, w: &mut Notes, o: usize) -> 
 
 fn note_by(s: &[u8], at: usize, v: u32, flags: u8, w: &mut Notes, o: usize) -> Place
     requires { ⌜ Near 18 at × (o ≤ 126) ⌝ }
-    ensures { λ r. ⌜ meaning.FillsTo (format.noteBy v flags) (now (s .entry)) at (o + meaning.KIND) (now (w .entry)) (now (w .exit)) (meaning.noteBytes (now (s .entry)) v flags (now (w .exit)) o) r ⌝ }
+    ensures { λ r. ⌜ meaning.FillsTo (format.noteBy v flags) (now (s .entry)) at (o + meaning.KIND) (now (w .entry))
+        (now (w .exit)) (meaning.noteBytes (now (s .entry)) v flags (now (w .exit)) o) r ⌝ }
 {
     let fretted = flags & 0x20 != 0;
     let at = put_if(s, at, fretted, w, o + places::KIND);
@@ -94,7 +98,8 @@ fn note_by(s: &[u8], at: usize, v: u32, flags: u8, w: &mut Notes, o: usize) -> P
 // Its fields are read to the last, past the end of the file as zeros: where they end says whether all were there.
 pub(crate) fn read_note(s: &[u8], at: usize, v: u32, w: &mut Notes, o: usize) -> Place
     requires { ⌜ Near 19 at × (o ≤ 126) ⌝ }
-    ensures { λ r. ⌜ meaning.FillsTo (format.note v) (now (s .entry)) at o (now (w .entry)) (now (w .exit)) (meaning.noteIn (now (s .entry)) v (now (w .exit)) o) r ⌝ }
+    ensures { λ r. ⌜ meaning.FillsTo (format.note v) (now (s .entry)) at o (now (w .entry)) (now (w .exit))
+        (meaning.noteIn (now (s .entry)) v (now (w .exit)) o) r ⌝ }
 {
     let flags = bin::ahead::byte(s, at);
     put(w, o + places::FLAGS, flags);

@@ -54,7 +54,8 @@ pub struct NoteEffects {
 // The bend's place and count are stored where there is one. It is read from place to place: a count of points may be refused.
 fn bend_at(s: &[u8], at: usize, first: u8, w: &mut Notes, o: usize) -> Place
     requires { ⌜ o ≤ 126 ⌝ }
-    ensures { λ r. ⌜ meaning.FillsTo (format.noteBend first) (now (s .entry)) at (o + meaning.BEND-START) (now (w .entry)) (now (w .exit)) (bendIn (now (s .entry)) (meaning.bendBy first (now (w .exit)) o)) r ⌝ }
+    ensures { λ r. ⌜ meaning.FillsTo (format.noteBend first) (now (s .entry)) at (o + meaning.BEND-START) (now (w .entry))
+        (now (w .exit)) (bendIn (now (s .entry)) (meaning.bendBy first (now (w .exit)) o)) r ⌝ }
 {
     let from = bin::ahead::reached(s, at);
     if first & 0x01 == 0 {
@@ -69,7 +70,8 @@ fn bend_at(s: &[u8], at: usize, first: u8, w: &mut Notes, o: usize) -> Place
 
 fn grace_at(s: &[u8], at: usize, v: u32, first: u8, w: &mut Notes, o: usize) -> usize
     requires { ⌜ Near 5 at × (o ≤ 126) ⌝ }
-    ensures { λ r. ⌜ meaning.Fills (format.grace v first) 5 (now (s .entry)) at (o + meaning.GRACE-FRET) (now (w .entry)) (now (w .exit)) (meaning.graceIn first (now (w .exit)) o) r ⌝ }
+    ensures { λ r. ⌜ meaning.Fills (format.grace v first) 5 (now (s .entry)) at (o + meaning.GRACE-FRET) (now (w .entry))
+        (now (w .exit)) (meaning.graceIn first (now (w .exit)) o) r ⌝ }
 {
     if first & 0x10 == 0 {
         return at;
@@ -97,7 +99,8 @@ fn harmonic_end(at: usize, v: u32, kind: u8) -> usize
 
 fn harmonic_at(s: &[u8], at: usize, v: u32, more: u8, w: &mut Notes, o: usize) -> usize
     requires { ⌜ Near 4 at × (o ≤ 126) ⌝ }
-    ensures { λ r. ⌜ meaning.Fills (format.harmonic v more) 4 (now (s .entry)) at (o + meaning.HARMONIC) (now (w .entry)) (now (w .exit)) (meaning.harmonicIn more (now (w .exit)) o) r ⌝ }
+    ensures { λ r. ⌜ meaning.Fills (format.harmonic v more) 4 (now (s .entry)) at (o + meaning.HARMONIC) (now (w .entry))
+        (now (w .exit)) (meaning.harmonicIn more (now (w .exit)) o) r ⌝ }
 {
     if more & 0x10 == 0 {
         return at;
@@ -109,7 +112,8 @@ fn harmonic_at(s: &[u8], at: usize, v: u32, more: u8, w: &mut Notes, o: usize) -
 
 fn marks_at(s: &[u8], at: usize, v: u32, first: u8, more: u8, w: &mut Notes, o: usize) -> usize
     requires { ⌜ Near 13 at × (o ≤ 126) ⌝ }
-    ensures { λ r. ⌜ meaning.Fills (format.marks v first more) 13 (now (s .entry)) at (o + meaning.GRACE-FRET) (now (w .entry)) (now (w .exit)) (meaning.marksBy v first more (now (w .exit)) o) r ⌝ }
+    ensures { λ r. ⌜ meaning.Fills (format.marks v first more) 13 (now (s .entry)) at (o + meaning.GRACE-FRET) (now (w .entry))
+        (now (w .exit)) (meaning.marksBy v first more (now (w .exit)) o) r ⌝ }
 {
     let at = grace_at(s, at, v, first, w, o);
     let at = put_if(s, at, more & 0x04 != 0, w, o + places::SPEED);
@@ -121,7 +125,8 @@ fn marks_at(s: &[u8], at: usize, v: u32, first: u8, more: u8, w: &mut Notes, o: 
 // The effects of a note, where its flags say that it has any.
 pub(crate) fn effects_at(s: &[u8], at: usize, v: u32, flags: u8, w: &mut Notes, o: usize) -> Place
     requires { ⌜ Near 2 at × (o ≤ 126) ⌝ }
-    ensures { λ r. ⌜ meaning.FillsTo (format.noteEffects v flags) (now (s .entry)) at (o + meaning.FIRST) (now (w .entry)) (now (w .exit)) (meaning.effectsAt (now (s .entry)) v (now (w .exit)) o) r ⌝ }
+    ensures { λ r. ⌜ meaning.FillsTo (format.noteEffects v flags) (now (s .entry)) at (o + meaning.FIRST) (now (w .entry))
+        (now (w .exit)) (meaning.effectsAt (now (s .entry)) v (now (w .exit)) o) r ⌝ }
 {
     if flags & 0x08 == 0 {
         put(w, o + places::FIRST, 0);

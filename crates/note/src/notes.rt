@@ -33,7 +33,8 @@ pub fn other_strings(mask: u32, i: usize) -> u32
 // A note of kind, fret and perhaps a dynamic, as most are: its fields one after another.
 fn plain_note(s: &[u8], at: usize, v: u32, flags: u8, w: &mut Notes, o: usize) -> usize
     requires { ⌜ Near 5 at × (o ≤ 126) × (flags ≡ getD (now s) at 0) × (bitAnd flags 0xA9 ≡ 0x20) ⌝ }
-    ensures { λ r. ⌜ meaning.Fills (note.note v) 5 (now (s .entry)) at o (now (w .entry)) (now (w .exit)) (meaning.noteIn (now (s .entry)) v (now (w .exit)) o) r ⌝ }
+    ensures { λ r. ⌜ meaning.Fills (note.note v) 5 (now (s .entry)) at o (now (w .entry)) (now (w .exit))
+        (meaning.noteIn (now (s .entry)) v (now (w .exit)) o) r ⌝ }
 {
     put(w, o + places::FLAGS, flags);
     put(w, o + places::KIND, bin::ahead::byte(s, at + 1));
@@ -48,7 +49,8 @@ fn plain_note(s: &[u8], at: usize, v: u32, flags: u8, w: &mut Notes, o: usize) -
 // The next note, with one way for plain ones: all of their bytes are there, and nothing of them is tested.
 fn next_note(s: &[u8], at: usize, v: u32, w: &mut Notes, o: usize) -> Place
     requires { ⌜ (at ≤ length (now s)) × (o ≤ 126) ⌝ }
-    ensures { λ r. ⌜ meaning.FillsTo (note.note v) (now (s .entry)) at o (now (w .entry)) (now (w .exit)) (meaning.noteIn (now (s .entry)) v (now (w .exit)) o) r ⌝ }
+    ensures { λ r. ⌜ meaning.FillsTo (note.note v) (now (s .entry)) at o (now (w .entry)) (now (w .exit))
+        (meaning.noteIn (now (s .entry)) v (now (w .exit)) o) r ⌝ }
 {
     let flags = bin::ahead::byte(s, at);
     if (flags & 0xA9 == 0x20) & (5 <= s.len() - at) {
@@ -58,7 +60,8 @@ fn next_note(s: &[u8], at: usize, v: u32, w: &mut Notes, o: usize) -> Place
 }
 
 pub fn read_notes(s: &[u8], from: usize, v: u32, strings: u8, w: &mut Notes) -> Place
-    ensures { λ r. ⌜ Arrives (format.notes v strings) (now (s .entry)) from (meaning.notesIn (now (s .entry)) v strings (now (w .exit))) r ⌝ }
+    ensures { λ r. ⌜ Arrives (format.notes v strings) (now (s .entry)) from
+        (meaning.notesIn (now (s .entry)) v strings (now (w .exit))) r ⌝ }
 {
     if s.len() < from {
         return Place::Stopped(format::Stop::Ends);

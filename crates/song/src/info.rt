@@ -85,7 +85,8 @@ fn names_at(s: &[u8], from: Place) -> NamesRead
 
 // The music credit from v500 on; before, it is the words.
 fn music_at(s: &[u8], from: Place, v: u32, words: Range) -> Kept
-    ensures { λ r. ⌜ Reaches (info.music v (textIn (now (s .entry)) words)) (now (s .entry)) from (textIn (now (s .entry)) (r .range)) (r .next) ⌝ }
+    ensures { λ r. ⌜ Reaches (info.music v (textIn (now (s .entry)) words)) (now (s .entry)) from
+        (textIn (now (s .entry)) (r .range)) (r .next) ⌝ }
 {
     if 500 <= v {
         return int_byte_string_unused(s, from);
