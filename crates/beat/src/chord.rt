@@ -6,17 +6,17 @@ ghost use Rattle.beat.specs.Words as meaning;
 use crate::places;
 use crate::places::Beat;
 use crate::places::put_range;
-use bin::string::Kept;
+use bin::string::StringRead;
 use format::Place;
 
 // A name of fixed width, between the bytes of its diagram.
-fn diagram_name(s: &[u8], from: Place, lead: usize, width: usize, rest: usize) -> Kept
+fn diagram_name(s: &[u8], from: Place, lead: usize, width: usize, rest: usize) -> StringRead
     ensures { λ r. ⌜ Reaches (format.diagram lead width rest) (now (s .entry)) from (textIn (now (s .entry)) (r .range)) (r .next) ⌝ }
 {
     let name = bin::string::fixed_string(s, bin::skip_at(s, from, lead), width);
     let at = name.next;
     let range = name.range;
-    Kept {
+    StringRead {
         range,
         next: bin::skip_at(s, at, rest),
     }
@@ -37,7 +37,7 @@ fn old_frets_past(s: &[u8], from: Place, v: u32, first: u32) -> Place
     bin::skip_at(s, from, 24)
 }
 
-fn old_chord_name(s: &[u8], from: Place, v: u32) -> Kept
+fn old_chord_name(s: &[u8], from: Place, v: u32) -> StringRead
     ensures { λ r. ⌜ Reaches (format.oldChord v) (now (s .entry)) from (textIn (now (s .entry)) (r .range)) (r .next) ⌝ }
 {
     let name = bin::string::int_byte_string(s, from);
@@ -45,13 +45,13 @@ fn old_chord_name(s: &[u8], from: Place, v: u32) -> Kept
     let first = bin::u32_at(s, at);
     let at = first.next;
     let range = name.range;
-    Kept {
+    StringRead {
         range,
         next: old_frets_past(s, at, v, first.value),
     }
 }
 
-fn early_chord_name(s: &[u8], from: Place, v: u32) -> Kept
+fn early_chord_name(s: &[u8], from: Place, v: u32) -> StringRead
     ensures { λ r. ⌜ Reaches (format.earlyChord v) (now (s .entry)) from (textIn (now (s .entry)) (r .range)) (r .next) ⌝ }
 {
     let form = bin::u8_at(s, from);
@@ -65,7 +65,7 @@ fn early_chord_name(s: &[u8], from: Place, v: u32) -> Kept
     diagram_name(s, at, 25, 34, 64)
 }
 
-fn any_chord_name(s: &[u8], from: Place, v: u32) -> Kept
+fn any_chord_name(s: &[u8], from: Place, v: u32) -> StringRead
     ensures { λ r. ⌜ Reaches (format.chord v) (now (s .entry)) from (textIn (now (s .entry)) (r .range)) (r .next) ⌝ }
 {
     if 500 <= v {

@@ -12,12 +12,12 @@ use format::Range;
 use format::Stop;
 
 // A text's range, and where reading goes on.
-pub struct Kept {
+pub struct StringRead {
     pub range: Range,
     pub next: Place,
 }
 
-const ENDED: Kept = Kept {
+const ENDED: StringRead = StringRead {
     range: NO_RANGE,
     next: Place::Stopped(Stop::Ends),
 };
@@ -98,11 +98,11 @@ fn range_of(start: usize, stop: usize) -> Range
 }
 
 // The text of n bytes.
-pub fn words_at(s: &[u8], from: Place, n: usize) -> Kept
+pub fn words_at(s: &[u8], from: Place, n: usize) -> StringRead
     ensures { λ r. ⌜ Gives (field.textBytes n) noText (now (s .entry)) from (textIn (now (s .entry)) (r .range)) (r .next) ⌝ }
 {
     let Place::At(at) = from else {
-        return Kept {
+        return StringRead {
             range: NO_RANGE,
             next: from,
         };
@@ -117,18 +117,18 @@ pub fn words_at(s: &[u8], from: Place, n: usize) -> Kept
     let cut = cut_end(s, at, end);
     let start = lead_end(s, at, cut);
     let stop = keep_end(s, start, cut);
-    Kept {
+    StringRead {
         range: range_of(start, stop),
         next: Place::At(end),
     }
 }
 
 // A text's length is tested before its bytes are sought.
-fn string_at(s: &[u8], from: Place, n: u32) -> Kept
+fn string_at(s: &[u8], from: Place, n: u32) -> StringRead
     ensures { λ r. ⌜ Gives (field.stringOf n) noText (now (s .entry)) from (textIn (now (s .entry)) (r .range)) (r .next) ⌝ }
 {
     let Place::At(_) = from else {
-        return Kept {
+        return StringRead {
             range: NO_RANGE,
             next: from,
         };
@@ -136,7 +136,7 @@ fn string_at(s: &[u8], from: Place, n: u32) -> Kept
     if n <= MAX_STRING {
         return words_at(s, from, n as usize);
     }
-    Kept {
+    StringRead {
         range: NO_RANGE,
         next: Place::Stopped(Stop::Text),
     }
@@ -155,7 +155,7 @@ fn string_past(s: &[u8], from: Place, n: u32) -> Place
 }
 
 // A length byte, then a field of fixed width.
-pub fn fixed_string(s: &[u8], from: Place, width: usize) -> Kept
+pub fn fixed_string(s: &[u8], from: Place, width: usize) -> StringRead
     ensures { λ r. ⌜ Gives (field.fixedString width) noText (now (s .entry)) from (textIn (now (s .entry)) (r .range)) (r .next) ⌝ }
 {
     let stated = crate::u8_at(s, from);
@@ -168,17 +168,17 @@ pub fn fixed_string(s: &[u8], from: Place, width: usize) -> Kept
     let at = words.next;
     let next = crate::skip_at(s, at, width - n);
     let Place::At(_) = next else {
-        return Kept {
+        return StringRead {
             range: NO_RANGE,
             next,
         };
     };
     let range = words.range;
-    Kept { range, next }
+    StringRead { range, next }
 }
 
 // A four-byte field size that is not used, then a length byte and the text.
-pub fn int_byte_string_unused(s: &[u8], from: Place) -> Kept
+pub fn int_byte_string_unused(s: &[u8], from: Place) -> StringRead
     ensures { λ r. ⌜ Gives field.intByteStringUnused noText (now (s .entry)) from (textIn (now (s .entry)) (r .range)) (r .next) ⌝ }
 {
     let n = crate::u8_at(s, crate::skip_at(s, from, 4));
@@ -195,7 +195,7 @@ pub fn int_byte_string_unused_past(s: &[u8], from: Place) -> Place
 }
 
 // A four-byte length, then the text.
-pub fn int_string(s: &[u8], from: Place) -> Kept
+pub fn int_string(s: &[u8], from: Place) -> StringRead
     ensures { λ r. ⌜ Gives field.intString noText (now (s .entry)) from (textIn (now (s .entry)) (r .range)) (r .next) ⌝ }
 {
     let n = crate::u32_at(s, from);
@@ -217,7 +217,7 @@ fn less_one(size: u32) -> u32
 }
 
 // A four-byte size, a length byte that is passed over, then the text.
-pub fn int_byte_string(s: &[u8], from: Place) -> Kept
+pub fn int_byte_string(s: &[u8], from: Place) -> StringRead
     ensures { λ r. ⌜ Gives field.intByteString noText (now (s .entry)) from (textIn (now (s .entry)) (r .range)) (r .next) ⌝ }
 {
     let size = crate::u32_at(s, from);

@@ -9,7 +9,7 @@ use lib.ListN.{length, getD, drop}
 use lib.Seq.{drop-cons}
 use Rattle.model.specs.declared.Articulations.{Articulations}
 use Rattle.model.specs.declared.NoteHead.the-variants.{Cross}
-use Rattle.model.specs.declared.Place.{Place}
+use Rattle.model.specs.declared.RowPlace.{RowPlace}
 use Rattle.curve.specs.declared.level.Level.the-variants.{Absent, Given}
 use Rattle.curve.specs.declared.level.NoteLevel.{NoteLevel}
 use Rattle.curve.specs.Level.{chordOf}
@@ -97,7 +97,7 @@ module _ (s : List ℕ) (v : ℕ) (notes chord : List ℕ) (i : ℕ) (inside : i
 
 -- ---- the row
 
-module _ (s : List ℕ) (v : ℕ) (notes : List ℕ) (place : Place) (board : Fretboard) (flat : Bool) (running : ℕ) (b : BeatIs)
+module _ (s : List ℕ) (v : ℕ) (notes : List ℕ) (place : RowPlace) (board : Fretboard) (flat : Bool) (running : ℕ) (b : BeatIs)
     (d : Draft) where
   pub row-rest : (chord : List ℕ) → length chord ≡ 0 → draftIn s [] d ≡ restRow place b
       → draftIn s (map (memberOf board flat) (chordIn s v notes chord)) d

@@ -25,7 +25,7 @@ use Rattle.draft.specs.declared.played.Played.{Played as PlayedHere}
 use Rattle.model.specs.declared.Arpeggio.the-variants.{NoArpeggio}
 use Rattle.model.specs.declared.Duration.the-variants.{ThirtySecond}
 use Rattle.model.specs.declared.Ottava.the-variants.{NoOttava}
-use Rattle.model.specs.declared.Place.{Place}
+use Rattle.model.specs.declared.RowPlace.{RowPlace}
 use Rattle.model.specs.declared.RowKind.the-variants as K
 use Rattle.model.specs.declared.Tuplet.the-variants.{NoTuplet}
 use Rattle.model.specs.Marks.{packed}
@@ -91,7 +91,7 @@ gracedIf NoGrace x = x
 gracedIf (Before g) x = gracedBy g x
 
 -- `graceRow` of Rows but for its members
-unfoldable pub graceDraft : Place → Graces → Draft
+unfoldable pub graceDraft : RowPlace → Graces → Draft
 graceDraft place x =
     record {
       place = place;

@@ -16,15 +16,15 @@ use model::Articulations;
 use model::NoteHead;
 use model::NoteValue;
 use model::Ottava;
-use model::Place;
 use model::RowKind;
+use model::RowPlace;
 use model::Technique;
 use model::TechniqueText;
 use note::bend::Bend;
 
 // A row but for its members, which are made of the chord where they are entered; its bend where the points stand in the file.
 pub struct Draft {
-    pub place: Place,
+    pub place: RowPlace,
     pub kind: RowKind,
     pub rest: bool,
     pub value: NoteValue,

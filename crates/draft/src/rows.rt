@@ -27,8 +27,8 @@ use model::Duration;
 use model::NoteHead;
 use model::NoteValue;
 use model::Ottava;
-use model::Place;
 use model::RowKind;
+use model::RowPlace;
 use model::Technique;
 use model::TechniqueText;
 use model::Tuplet;
@@ -56,7 +56,7 @@ fn value_of(b: &Beat) -> NoteValue
     }
 }
 
-fn rest_row(place: Place, b: &Beat) -> Draft
+fn rest_row(place: RowPlace, b: &Beat) -> Draft
     ensures { λ r. ⌜ ((s : List ℕ) (v : ℕ) (w : List ℕ) → draftIn s [] r ≡ rule.restRow place (beatIn s v (now (b .entry)) w)) ⌝ }
 {
     let ottava = beat::field::ottava(b);
@@ -78,7 +78,7 @@ fn rest_row(place: Place, b: &Beat) -> Draft
     }
 }
 
-fn chord_row(place: Place, running: u8, b: &Beat, notes: &Notes, chord: &[u32], v: u32) -> Draft
+fn chord_row(place: RowPlace, running: u8, b: &Beat, notes: &Notes, chord: &[u32], v: u32) -> Draft
     ensures { λ r. ⌜ ((s : List ℕ) (board : Fretboard) (flat : Bool) →
         draftIn s (map (memberOf board flat) (chordIn s v (now (notes .entry)) (now (chord .entry)))) r
         ≡ rule.chordRow place board flat running (beatIn s v (now (b .entry)) (now (notes .entry)))
@@ -114,7 +114,14 @@ fn chord_row(place: Place, running: u8, b: &Beat, notes: &Notes, chord: &[u32], 
 }
 
 // A beat in which no note sounds is a rest.
-pub fn beat_row(place: Place, running: u8, b: &Beat, notes: &Notes, chord: &[u32], v: u32) -> Draft
+pub fn beat_row(
+    place: RowPlace,
+    running: u8,
+    b: &Beat,
+    notes: &Notes,
+    chord: &[u32],
+    v: u32,
+) -> Draft
     ensures { λ r. ⌜ ((s : List ℕ) (board : Fretboard) (flat : Bool) →
         draftIn s (map (memberOf board flat) (chordIn s v (now (notes .entry)) (now (chord .entry)))) r
         ≡ rule.beatRow place board flat running (beatIn s v (now (b .entry)) (now (notes .entry)))
@@ -127,7 +134,7 @@ pub fn beat_row(place: Place, running: u8, b: &Beat, notes: &Notes, chord: &[u32
 }
 
 // The row of graces that give it so much.
-pub fn grace_row(place: Place, x: Graces) -> Draft
+pub fn grace_row(place: RowPlace, x: Graces) -> Draft
     ensures { λ r. ⌜ r ≡ graceDraft place x ⌝ }
 {
     let text = x.text;

@@ -19,7 +19,7 @@ use Rattle.note.specs.Hop.{AllUnmarked, countFrom, stringCount}
 use Rattle.note.proofs.Strings.{all-at}
 use Rattle.beat.specs.Beat.{BeatIs}
 use Rattle.beat.specs.Hop.{Unmarked}
-use Rattle.score.specs.declared.Kept.{Kept}
+use Rattle.score.specs.declared.KeptCounts.{KeptCounts}
 use Rattle.score.specs.Sounding.{soundsOn}
 use Rattle.score.specs.Page.{bendRoom, bendRooms, emptyBytes, hasText}
 use Rattle.words.specs.Counted.{oneNote, oneGrace, graceOf, heard, keptWith, keptOf, countTally}
@@ -83,7 +83,7 @@ no-text x e = ap (λ (t : TextRead). x .head .kept && not (emptyBytes (t .bytes)
     by false = refl
 
 -- ---- the beat
-module _ {bits mask : ℕ} {kept : Kept} (strings : ℕ) (progress : Progress) (m : mask < 128) (h : (i : ℕ) → i < 7 → has mask (stringBit i) ≡ soundsOn strings bits i) (e : kept ≡ keptWith (ones mask) 0 (progress .kept)) (fits : progress .«point_room» ≤ LARGEST) where
+module _ {bits mask : ℕ} {kept : KeptCounts} (strings : ℕ) (progress : Progress) (m : mask < 128) (h : (i : ℕ) → i < 7 → has mask (stringBit i) ≡ soundsOn strings bits i) (e : kept ≡ keptWith (ones mask) 0 (progress .kept)) (fits : progress .«point_room» ≤ LARGEST) where
   pub counted-plain : (x : BeatIs) (lost : List ℕ) → Unmarked bits x → tallyOf (withKept kept progress) lost ≡ countTally strings x (tallyOf progress lost)
   unfolding countTally
   counted-plain x lost u =

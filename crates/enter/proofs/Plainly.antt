@@ -9,7 +9,7 @@ use lib.Seq.{set-getD}
 use borrow.Author.Tests.{eqb-true}
 use Rattle.format.specs.Text.{pick}
 use Rattle.model.specs.declared.Loss.{Loss}
-use Rattle.model.specs.declared.Place.{Place}
+use Rattle.model.specs.declared.RowPlace.{RowPlace}
 use Rattle.model.specs.declared.Tempo.{Tempo}
 use Rattle.model.specs.declared.Tempo.the-variants.{NoTempo}
 use Rattle.curve.specs.declared.level.LevelAfter.{LevelAfter}
@@ -17,7 +17,7 @@ use Rattle.curve.specs.Level.{chordOf, levelAfter}
 use Rattle.beat.specs.Beat.{BeatIs}
 use Rattle.entries.specs.Words.{barStride, tempoAt}
 use Rattle.score.specs.declared.Fretboard.{Fretboard}
-use Rattle.score.specs.declared.Kept.{Kept}
+use Rattle.score.specs.declared.KeptCounts.{KeptCounts}
 use Rattle.score.specs.declared.Remembered.{Remembered}
 use Rattle.score.specs.declared.Voice.{Voice}
 use Rattle.score.specs.Sounding.{sounding}
@@ -36,7 +36,7 @@ use Rattle.enter.specs.Plain.{PlainBeat}
 use Rattle.enter.proofs.Steps.{sounds, adds}
 
 -- ---- its notes
-module _ (s : List ℕ) (place : Place) (flat : Bool) (b : BeatIs) (kept : Kept) (rows members points parts : List ℕ) (plain : PlainBeat b) where
+module _ (s : List ℕ) (place : RowPlace) (flat : Bool) (b : BeatIs) (kept : KeptCounts) (rows members points parts : List ℕ) (plain : PlainBeat b) where
   one-row : (board : Fretboard) (memory : List Remembered) (running : ℕ) (chord : List Keyed) (level : LevelAfter) (w : Rowing Words)
       → chord ≡ inOrder board (sounding board memory b) → level ≡ levelAfter running (chordOf (levels chord))
       → keepRow (words s) (plainRow place board flat (level .mark) b chord) w ≡ keepBeat (words s) place board flat running b chord w
@@ -47,7 +47,7 @@ module _ (s : List ℕ) (place : Place) (flat : Bool) (b : BeatIs) (kept : Kept)
       ∙ ap (λ (rs : List RowIs). keepRows (words s) rs w) r)
 
   pub sounds-plain : {board : Fretboard} {memory read voice : Voice} {running : ℕ} {level : LevelAfter} {chord : List Keyed}
-      {kept2 : Kept} {rows2 members2 parts2 parts3 : List ℕ}
+      {kept2 : KeptCounts} {rows2 members2 parts2 parts3 : List ℕ}
       → board ≡ words s .boardAt (place .track) parts → memory ≡ words s .voiceAt (place .track) (place .voice) parts → running ≡ words s .runningAt (place .track) parts
       → chord ≡ inOrder board (sounding board (memory .frets) b) → read ≡ heardBy board memory b
       → level ≡ levelAfter running (chordOf (levels chord))
@@ -72,17 +72,17 @@ same-bars : (i : ℕ) (t : List ℕ) → tempoWords i NoTempo t ≡ t
 unfolding tempoWords
 same-bars i t = rw (same-word (getD t (i * barStride + tempoAt) 0)) (set-getD t (i * barStride + tempoAt) 0)
 
-abbrev pub withKept : Kept → Progress → Progress
+abbrev pub withKept : KeptCounts → Progress → Progress
 withKept kept p =
     record { kept = kept; texts = p .texts; «text_room» = p .«text_room»; «point_room» = p .«point_room»; flat = p .flat }
 
-module _ (s : List ℕ) (place : Place) (b : BeatIs) (progress : Progress) (lost bars rows members points texts parts : List ℕ) (plain : PlainBeat b) where
+module _ (s : List ℕ) (place : RowPlace) (b : BeatIs) (progress : Progress) (lost bars rows members points texts parts : List ℕ) (plain : PlainBeat b) where
   no-losses : (chord : List Keyed) → buildingLosses b chord ≡ [] → lost ≡ report (words s) (beatLosses (words s) b chord) lost
   no-losses chord e =
       let all : beatLosses (words s) b chord ≡ [] = λ i. plain .lost i ++ pick (plain .kept i) (e i) [] in
       sym (ap (λ (ls : List Loss). report (words s) ls lost) all)
 
-  pub adds-plain : {kept : Kept} {chord : List Keyed} {rows2 members2 parts2 : List ℕ}
+  pub adds-plain : {kept : KeptCounts} {chord : List Keyed} {rows2 members2 parts2 : List ℕ}
       → progress .«point_room» ≤ LARGEST
       → soundedOf rows2 members2 points parts2 kept chord ≡ sounded s place (progress .flat) b (progress .kept) rows members points parts
       → walkOf bars rows2 members2 points texts parts2 (tallyOf (withKept kept progress) lost)

@@ -3,10 +3,10 @@ use Prim.Native.Nat.{ℕ}
 use mathlib.Core.Path.{_≡_, ap, _∙_}
 use mathlib.Core.List.{List}
 use mathlib.Core.Bool.{Bool}
-use Rattle.model.specs.declared.Place.{Place}
+use Rattle.model.specs.declared.RowPlace.{RowPlace}
 use Rattle.beat.specs.Beat.{BeatIs}
 use Rattle.score.specs.declared.Fretboard.{Fretboard}
-use Rattle.score.specs.declared.Kept.{Kept}
+use Rattle.score.specs.declared.KeptCounts.{KeptCounts}
 use Rattle.score.specs.declared.Voice.{Voice}
 use Rattle.score.specs.Sounding.{sounding}
 use Rattle.score.specs.Members.{Keyed, inOrder}
@@ -17,9 +17,9 @@ use Rattle.words.specs.Meant.{rowingOf, walkOf}
 use Rattle.enter.specs.declared.Progress.{Progress}
 use Rattle.enter.specs.Steps.{Sounded, soundedOf, sounded, rowing, textsWith, countWith, tallyOf, progressWith}
 
-module _ (s : List ℕ) (place : Place) (flat : Bool) (b : BeatIs) (kept : Kept) (rows members points parts : List ℕ) where
+module _ (s : List ℕ) (place : RowPlace) (flat : Bool) (b : BeatIs) (kept : KeptCounts) (rows members points parts : List ℕ) where
   pub sounds : {board : Fretboard} {memory read voice : Voice} {running after : ℕ} {chord : List Keyed}
-      {kept2 : Kept} {rows2 members2 points2 parts2 parts3 : List ℕ}
+      {kept2 : KeptCounts} {rows2 members2 points2 parts2 parts3 : List ℕ}
       → board ≡ words s .boardAt (place .track) parts → memory ≡ words s .voiceAt (place .track) (place .voice) parts → running ≡ words s .runningAt (place .track) parts
       → chord ≡ inOrder board (sounding board (memory .frets) b) → read ≡ heardBy board memory b
       → rowingOf rows2 members2 points2 kept2 voice ≡ keepBeat (words s) place board flat running b chord (rowingOf rows members points kept read)
@@ -33,8 +33,8 @@ module _ (s : List ℕ) (place : Place) (flat : Bool) (b : BeatIs) (kept : Kept)
       let q : parts3 ≡ sounded s place flat b kept rows members points parts .parts = e9 ∙ rw (e8, e7, v, h, e3) in
       λ i. soundedOf (g i .rows) (g i .members) (g i .points) (q i) (g i .kept) (h i)
 
-module _ (s : List ℕ) (place : Place) (b : BeatIs) (progress : Progress) (lost bars rows members points texts parts : List ℕ) where
-  pub adds : {kept : Kept} {chord : List Keyed} {count : ℕ} {progress2 : Progress} {lost2 bars2 rows2 members2 points2 texts2 parts2 : List ℕ}
+module _ (s : List ℕ) (place : RowPlace) (b : BeatIs) (progress : Progress) (lost bars rows members points texts parts : List ℕ) where
+  pub adds : {kept : KeptCounts} {chord : List Keyed} {count : ℕ} {progress2 : Progress} {lost2 bars2 rows2 members2 points2 texts2 parts2 : List ℕ}
       → soundedOf rows2 members2 points2 parts2 kept chord ≡ sounded s place (progress .flat) b (progress .kept) rows members points parts
       → texts2 ≡ textsWith s place b (progress .texts) texts → count ≡ countWith s place b (progress .texts) texts
       → bars2 ≡ words s .tempoAt (place .bar) (b .mix .tempo) bars → lost2 ≡ report (words s) (beatLosses (words s) b chord) lost

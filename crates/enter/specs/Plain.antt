@@ -3,7 +3,7 @@ use mathlib.Core.Path.{_≡_}
 use mathlib.Core.Bool.{Bool, true, false}
 use mathlib.Core.List.{[], _∷_}
 use Prim.Native.Nat.{ℕ}
-use Rattle.model.specs.declared.Place.{Place}
+use Rattle.model.specs.declared.RowPlace.{RowPlace}
 use Rattle.model.specs.declared.Tempo.the-variants.{NoTempo}
 use Rattle.curve.specs.Level.{chordOf, levelAfter}
 use Rattle.note.specs.declared.LeftHand.the-variants.{NoFinger}
@@ -34,6 +34,6 @@ pub record PlainBeat (b : BeatIs) : Type 0 where
   pub text : hasText b ≡ false
   pub tempo : b .mix .tempo ≡ NoTempo
   pub rooms : bendRooms (b .strings) 0 (b .notes) ≡ 0
-  pub rows : (place : Place) (board : Fretboard) (flat : Bool) (running : ℕ) (memory : Memory) →
+  pub rows : (place : RowPlace) (board : Fretboard) (flat : Bool) (running : ℕ) (memory : Memory) →
       rowsOf place board flat running b (inOrder board (sounding board memory b))
       ≡ plainRow place board flat (levelAfter running (chordOf (levels (inOrder board (sounding board memory b)))) .mark) b (inOrder board (sounding board memory b)) ∷ []

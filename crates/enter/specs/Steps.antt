@@ -3,11 +3,11 @@ use Prim.Native.Nat.{ℕ}
 use mathlib.Core.List.{List}
 use mathlib.Core.Bool.{Bool}
 use Rattle.model.specs.declared.Key.{Key}
-use Rattle.model.specs.declared.Place.{Place}
+use Rattle.model.specs.declared.RowPlace.{RowPlace}
 use Rattle.score.specs.Bars.{flatAfter}
 use Rattle.beat.specs.Beat.{BeatIs}
 use Rattle.score.specs.declared.Fretboard.{Fretboard}
-use Rattle.score.specs.declared.Kept.{Kept}
+use Rattle.score.specs.declared.KeptCounts.{KeptCounts}
 use Rattle.score.specs.declared.Voice.{Voice}
 use Rattle.score.specs.Sounding.{Sounding, sounding}
 use Rattle.score.specs.Members.{Keyed, inOrder}
@@ -24,14 +24,14 @@ pub record Sounded : Type 0 where
   pub members : List ℕ
   pub points : List ℕ
   pub parts : List ℕ
-  pub kept : Kept
+  pub kept : KeptCounts
   pub chord : List Keyed
 
-abbrev pub soundedOf : (rows members points parts : List ℕ) → Kept → List Keyed → Sounded
+abbrev pub soundedOf : (rows members points parts : List ℕ) → KeptCounts → List Keyed → Sounded
 soundedOf rows members points parts kept chord =
     record { rows = rows; members = members; points = points; parts = parts; kept = kept; chord = chord }
 
-module _ (s : List ℕ) (place : Place) (flat : Bool) (b : BeatIs) (kept : Kept) (rows members points parts : List ℕ) where
+module _ (s : List ℕ) (place : RowPlace) (flat : Bool) (b : BeatIs) (kept : KeptCounts) (rows members points parts : List ℕ) where
   abbrev pub board : Fretboard
   board = words s .boardAt (place .track) parts
 
@@ -62,7 +62,7 @@ module _ (s : List ℕ) (place : Place) (flat : Bool) (b : BeatIs) (kept : Kept)
       }
 
 -- ---- the rest
-module _ (s : List ℕ) (place : Place) (b : BeatIs) (count : ℕ) (texts : List ℕ) where
+module _ (s : List ℕ) (place : RowPlace) (b : BeatIs) (count : ℕ) (texts : List ℕ) where
   abbrev pub own : TextIs
   own = record { bar = place .bar; track = place .track; text = b .text }
 
@@ -87,7 +87,7 @@ tallyOf p lost =
       losses = lost;
     }
 
-unfoldable pub progressWith : List ℕ → BeatIs → Kept → (texts : ℕ) → Progress → Progress
+unfoldable pub progressWith : List ℕ → BeatIs → KeptCounts → (texts : ℕ) → Progress → Progress
 progressWith s b kept texts p =
     record {
       kept = kept;

@@ -17,7 +17,7 @@ use note::marks::GraceNote;
 use note::notes::first_string;
 use note::notes::other_strings;
 use note::places::Notes;
-use score::Kept;
+use score::KeptCounts;
 use words::plus;
 
 // How many notes sound, and how many graces stand before them.
@@ -64,31 +64,31 @@ fn heard_of(b: &Beat, notes: &Notes, strings: u8) -> Heard
 }
 
 // A row for the graces, where there are any.
-fn with_graces(kept: Kept, graces: u32) -> Kept
+fn with_graces(kept: KeptCounts, graces: u32) -> KeptCounts
     ensures { λ r. ⌜ r ≡ graced graces kept ⌝ }
 {
     if graces == 0 {
         return kept;
     }
-    Kept {
+    KeptCounts {
         rows: plus(kept.rows, 1),
         members: plus(kept.members, graces),
         points: kept.points,
     }
 }
 
-fn kept_with(kept: Kept, heard: Heard) -> Kept
+fn kept_with(kept: KeptCounts, heard: Heard) -> KeptCounts
     ensures { λ r. ⌜ r ≡ keptWith (heard .notes) (heard .graces) kept ⌝ }
 {
     let before = with_graces(kept, heard.graces);
-    Kept {
+    KeptCounts {
         rows: plus(before.rows, 1),
         members: plus(before.members, heard.notes),
         points: kept.points,
     }
 }
 
-fn kept_of(b: &Beat, notes: &Notes, strings: u8, kept: Kept) -> Kept
+fn kept_of(b: &Beat, notes: &Notes, strings: u8, kept: KeptCounts) -> KeptCounts
     ensures { λ r. ⌜ ((s : List ℕ) (v : ℕ) → r ≡ keptOf strings (beatIn s v (now (b .entry)) (now (notes .entry))) kept) ⌝ }
 {
     if beat::field::kept(b) {

@@ -21,7 +21,7 @@ use Rattle.model.specs.declared.Changes.{Changes}
 use Rattle.model.specs.declared.Expression.{Expression}
 use Rattle.model.specs.declared.NoteValue.{NoteValue}
 use Rattle.model.specs.declared.OttavaMarks.{OttavaMarks}
-use Rattle.model.specs.declared.Place.{Place}
+use Rattle.model.specs.declared.RowPlace.{RowPlace}
 use Rattle.model.specs.declared.Playing.{Playing}
 use Rattle.model.specs.declared.Repeats.{Repeats}
 use Rattle.model.specs.declared.Time.{Time}
@@ -155,7 +155,7 @@ techniqueAt = 12
 abbrev pub ottavaEndAt : ℕ
 ottavaEndAt = 24
 
-unfoldable pub placeOf : List ℕ → Place
+unfoldable pub placeOf : List ℕ → RowPlace
 placeOf l = record { bar = getD l 0 0; track = getD l 1 0; voice = getD l 2 0 }
 
 unfoldable pub valueOf : List ℕ → NoteValue

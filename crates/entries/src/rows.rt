@@ -4,9 +4,9 @@ use model::Articulations;
 use model::Expression;
 use model::NoteValue;
 use model::OttavaMarks;
-use model::Place;
 use model::Playing;
 use model::Row;
+use model::RowPlace;
 use model::Span;
 use model::Technique;
 use model::kinds;
@@ -24,7 +24,7 @@ pub const TECHNIQUE: usize = 12;
 
 pub const OTTAVA_END: usize = 24;
 
-// Place, kind, rest, note value, members; text, technique, curve, height.
+// RowPlace, kind, rest, note value, members; text, technique, curve, height.
 fn front_words(x: Row) -> [u32; 17]
     ensures { λ r. ⌜ r ≡ frontWords x ⌝ }
 {
@@ -98,10 +98,10 @@ pub fn store_row(rows: &mut [u32], i: usize, x: Row)
     tables::store_words(rows, at + 17, &back);
 }
 
-fn place_of(w: &[u32]) -> Place
+fn place_of(w: &[u32]) -> RowPlace
     ensures { λ r. ⌜ r ≡ placeOf (now (w .entry)) ⌝ }
 {
-    Place {
+    RowPlace {
         bar: tables::load(w, 0),
         track: tables::load(w, 1),
         voice: tables::load(w, 2),

@@ -7,7 +7,7 @@ ghost use Rattle.format.specs.Fields as field;
 ghost use Rattle.header.specs.Header as head;
 use bin::Byte;
 use bin::skip_at;
-use bin::string::Kept;
+use bin::string::StringRead;
 use format::Counted;
 use format::NO_RANGE;
 use format::Place;
@@ -189,11 +189,11 @@ fn ending_at(s: &[u8], from: Place, v: u32, flags: u8) -> Byte
     byte_where(s, from, flags, 0x10, 0)
 }
 
-fn marker_at(s: &[u8], from: Place, flags: u8) -> Kept
+fn marker_at(s: &[u8], from: Place, flags: u8) -> StringRead
     ensures { λ r. ⌜ Reaches (head.marker flags) (now (s .entry)) from (textIn (now (s .entry)) (r .range)) (r .next) ⌝ }
 {
     if flags & 0x20 == 0 {
-        return Kept {
+        return StringRead {
             range: NO_RANGE,
             next: from,
         };
@@ -202,7 +202,7 @@ fn marker_at(s: &[u8], from: Place, flags: u8) -> Kept
     let at = name.next;
     let next = skip_at(s, at, 4);
     let range = name.range;
-    Kept { range, next }
+    StringRead { range, next }
 }
 
 // A two's complement byte held to -7..7.

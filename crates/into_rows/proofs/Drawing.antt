@@ -15,7 +15,7 @@ use Rattle.model.specs.declared.Row.{Row}
 use Rattle.model.specs.declared.Span.{Span}
 use Rattle.entries.specs.Words.{rowStride, rowWords}
 use Rattle.score.specs.declared.Hammer.{Hammer}
-use Rattle.score.specs.declared.Kept.{Kept}
+use Rattle.score.specs.declared.KeptCounts.{KeptCounts}
 use Rattle.score.specs.declared.OttavaRun.{OttavaRun}
 use Rattle.score.specs.declared.OttavaRun.the-variants.{NoRun, Over}
 use Rattle.score.specs.declared.Voice.{Voice}
@@ -50,7 +50,7 @@ module _ (ms : List Member) (ps : List Point) (d : Draft) where
   same-run n NoRun = refl
   same-run n (Over k kind) = refl
 
-  pub row-added : (kept : Kept) (hammer : Hammer) (run : OttavaRun) (rows : List ℕ) {marks : OttavaMarks} {row : Row}
+  pub row-added : (kept : KeptCounts) (hammer : Hammer) (run : OttavaRun) (rows : List ℕ) {marks : OttavaMarks} {row : Row}
       {turned carried entered : List ℕ} → turned ≡ turnHammer (words []) hammer (drawn ms ps d) rows
       → carried ≡ turnRun (words []) run (undrawn d) turned
       → marks ≡ ottavaMarks (undrawn d) run
@@ -62,7 +62,7 @@ module _ (ms : List Member) (ps : List Point) (d : Draft) where
   row-added kept hammer run rows eh er em ew e =
       rw (e, ew, em ∙ same-marks run, er ∙ same-turn run _, eh)
 
-  pub voice-kept : (company : Company) (kept : Kept) (voice : Voice) {own last : Span} {hammer : Hammer} {run : OttavaRun}
+  pub voice-kept : (company : Company) (kept : KeptCounts) (voice : Voice) {own last : Span} {hammer : Hammer} {run : OttavaRun}
       {v₁ v₂ v₃ : Voice} → Sums ms company
       → own ≡ spanOf (kept .members) (company .count)
       → last ≡ lastAfter (d .kind) own (voice .last)

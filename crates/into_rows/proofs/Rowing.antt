@@ -9,7 +9,7 @@ use mathlib.Core.Bool.{Bool, true, false, true≢false}
 use lib.ListN.{length, take}
 use lib.Seq.{sets, take-all, length-take-le}
 use Rattle.model.specs.declared.Member.{Member}
-use Rattle.model.specs.declared.Place.{Place}
+use Rattle.model.specs.declared.RowPlace.{RowPlace}
 use Rattle.model.specs.declared.Point.{Point}
 use Rattle.tables.specs.Table.{stores}
 use Rattle.entries.specs.Words.{rowStride, rowWords, memberStride, memberWords, pointStride, pointWords}
@@ -17,7 +17,7 @@ use Rattle.curve.specs.Bend.{finish}
 use Rattle.note.specs.Points.{pointsAt, bendIn}
 use Rattle.beat.specs.Beat.{BeatIs}
 use Rattle.score.specs.declared.Fretboard.{Fretboard}
-use Rattle.score.specs.declared.Kept.{Kept}
+use Rattle.score.specs.declared.KeptCounts.{KeptCounts}
 use Rattle.score.specs.declared.Voice.{Voice}
 use Rattle.score.specs.Members.{Keyed, Graced, graces}
 use Rattle.score.specs.Rows.{RowIs, curveOf, graceRow, graceRows, beatRow, rowsOf}
@@ -39,7 +39,7 @@ pub bends-by : (ps : List Point) {bent : Bent} → bent ≡ bentOf ps → Bends 
 bends-by ps e = rw e (record { count = refl; height = refl })
 
 -- ---- one row, table by table
-module _ (s : List ℕ) (kept : Kept) (voice : Voice) (rows members points : List ℕ) where
+module _ (s : List ℕ) (kept : KeptCounts) (voice : Voice) (rows members points : List ℕ) where
   abbrev before : Rowing Words
   before = rowingOf rows members points kept voice
 
@@ -47,7 +47,7 @@ module _ (s : List ℕ) (kept : Kept) (voice : Voice) (rows members points : Lis
     abbrev its : List Point
     its = curveOf (bendIn s (d .bend))
 
-    pub row-kept : (company : Company) {bent : Bent} {r p : List ℕ} {k : Kept} {v : Voice} → Sums ms company
+    pub row-kept : (company : Company) {bent : Bent} {r p : List ℕ} {k : KeptCounts} {v : Voice} → Sums ms company
         → bent ≡ bentOf its
         → p ≡ stores pointWords pointStride points (kept .points) its
         → r
@@ -83,7 +83,7 @@ module _ (s : List ℕ) (kept : Kept) (voice : Voice) (rows members points : Lis
       ∙ rw (ties-started s (voice .last) (row .members) members)
 
   -- a row whose members are entered apart
-  module _ (ms : List Member) (d : Draft) {r m p : List ℕ} {k : Kept} {v : Voice}
+  module _ (ms : List Member) (d : Draft) {r m p : List ℕ} {k : KeptCounts} {v : Voice}
       (entered : rowingOf r (keepRow (words s) (draftIn s ms d) before .members) p k v ≡ keepRow (words s) (draftIn s ms d) before) where
     with-members : m ≡ keepRow (words s) (draftIn s ms d) before .members
         → rowingOf r m p k v ≡ keepRow (words s) (draftIn s ms d) before
@@ -97,7 +97,7 @@ module _ (s : List ℕ) (kept : Kept) (voice : Voice) (rows members points : Lis
         with-members (em ∙ rw en (sym (members-kept (draftIn s ms d)))) ∙ ap (λ (x : RowIs). keepRow (words s) x before) ed
 
 -- ---- the row of graces
-module _ (place : Place) (board : Fretboard) (flat : Bool) where
+module _ (place : RowPlace) (board : Fretboard) (flat : Bool) where
   pub no-graces : {T : Kind → Type 0} (the : Operations T) (gs : List Graced) (w : Rowing T) {x : Graces} → x ≡ gracesOf gs
       → x .any ≡ false
       → w ≡ keepRows the (graceRows place board flat gs) w
@@ -114,8 +114,8 @@ module _ (place : Place) (board : Fretboard) (flat : Bool) where
   unfolding graceDraft graceRow pointsAt finish
   grace-drawn s gs = refl
 
-  pub graces-kept : (s : List ℕ) (kept : Kept) (voice : Voice) (rows members points : List ℕ) (gs : List Graced) {x : Graces} {d : Draft}
-      {r m p : List ℕ} {k : Kept} {v : Voice} → x ≡ gracesOf gs
+  pub graces-kept : (s : List ℕ) (kept : KeptCounts) (voice : Voice) (rows members points : List ℕ) (gs : List Graced) {x : Graces} {d : Draft}
+      {r m p : List ℕ} {k : KeptCounts} {v : Voice} → x ≡ gracesOf gs
       → x .any ≡ true
       → d ≡ graceDraft place x
       → m ≡ stores memberWords memberStride members (kept .members) (fingered (gracesAs board flat gs))
@@ -129,7 +129,7 @@ module _ (place : Place) (board : Fretboard) (flat : Bool) where
       ∙ some-graces (words s) gs (rowingOf rows members points kept voice) (rw ex at any)
 
 -- ---- the rows of a beat
-pub both-rows : {T : Kind → Type 0} (the : Operations T) (place : Place) (board : Fretboard) (flat : Bool) (running : ℕ) (b : BeatIs)
+pub both-rows : {T : Kind → Type 0} (the : Operations T) (place : RowPlace) (board : Fretboard) (flat : Bool) (running : ℕ) (b : BeatIs)
     (xs : List Keyed) (w : Rowing T)
     → keepRows the (rowsOf place board flat running b xs) w
     ≡ keepRow the (beatRow place board flat running b xs) (keepRows the (graceRows place board flat (graces xs)) w)

@@ -15,7 +15,7 @@ use Rattle.tables.specs.Table.{stores}
 use Rattle.model.specs.declared.Member.{Member}
 use Rattle.model.specs.declared.Ottava.{Ottava}
 use Rattle.model.specs.declared.Ottava.the-variants as O
-use Rattle.model.specs.declared.Place.{Place}
+use Rattle.model.specs.declared.RowPlace.{RowPlace}
 use Rattle.model.specs.declared.Span.{Span}
 use Rattle.model.specs.Kinds.{durationWord, actualWord, normalWord, dynamicWord, noteHeadWord, ottavaWord, fingerWord, flagWord}
 use Rattle.entries.specs.Words.{rowStride, frontWords, backWords, rowWords, memberStride, memberWords}
@@ -24,7 +24,7 @@ use Rattle.curve.specs.declared.level.Level.{Level}
 use Rattle.beat.specs.Beat.{BeatIs}
 use Rattle.score.specs.declared.Fretboard.{Fretboard}
 use Rattle.score.specs.declared.Hammer.the-variants.{NoHammer}
-use Rattle.score.specs.declared.Kept.{Kept}
+use Rattle.score.specs.declared.KeptCounts.{KeptCounts}
 use Rattle.score.specs.declared.OttavaRun.{OttavaRun}
 use Rattle.score.specs.declared.OttavaRun.the-variants.{NoRun, Over}
 use Rattle.score.specs.declared.Voice.{Voice}
@@ -52,7 +52,7 @@ no-ottava O.Vb8 = refl
 no-ottava O.Ma15 = refl
 no-ottava O.Mb15 = refl
 
-module _ (place : Place) (board : Fretboard) (flat : Bool) (mark : Level) (b : BeatIs) where
+module _ (place : RowPlace) (board : Fretboard) (flat : Bool) (mark : Level) (b : BeatIs) where
   abbrev membersOf : List Keyed → List Member
   membersOf xs = map (memberOf board flat) xs
 
@@ -89,7 +89,7 @@ module _ (place : Place) (board : Fretboard) (flat : Bool) (mark : Level) (b : B
   no-turn s (Over n kind) xs t = refl
 
   -- ---- its words
-  pub plain-stored : (rows : List ℕ) (xs : List Keyed) (kept : Kept) {company : Company} {own : Span}
+  pub plain-stored : (rows : List ℕ) (xs : List Keyed) (kept : KeptCounts) {company : Company} {own : Span}
       {rest duration dot actual normal dynamic head finger : ℕ} {r : List ℕ}
       → r
       ≡ sets rows (kept .rows * rowStride)
@@ -111,7 +111,7 @@ module _ (place : Place) (board : Fretboard) (flat : Bool) (mark : Level) (b : B
       rw (e, er, ed, et, ea, en, ey, eh, ef, eo, ← (rest-counted xs sums), sums .count, sums .finger)
 
   -- ---- its tables
-  module _ (s : List ℕ) (xs : List Keyed) (kept : Kept) (voice : Voice) (rows members points : List ℕ) where
+  module _ (s : List ℕ) (xs : List Keyed) (kept : KeptCounts) (voice : Voice) (rows members points : List ℕ) where
     row-stored : {t r : List ℕ} → t ≡ turnHammer (words []) (voice .hammer) (row xs) rows
         → r ≡ sets t (kept .rows * rowStride) (rowWords (rowEntry (row xs) noMarks kept))
         → r

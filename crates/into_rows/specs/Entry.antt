@@ -8,7 +8,7 @@ use Rattle.model.specs.declared.Member.{Member}
 use Rattle.model.specs.declared.Playing.{Playing}
 use Rattle.model.specs.declared.Point.{Point}
 use Rattle.curve.specs.Bend.{curveHeight}
-use Rattle.score.specs.declared.Kept.{Kept}
+use Rattle.score.specs.declared.KeptCounts.{KeptCounts}
 use Rattle.score.specs.declared.Voice.{Voice}
 use Rattle.score.specs.Page.{Rowing, spanOf, textLeft, dynamicAt, plainFinger, firstKey, hammerAfter, lastAfter, runAfter}
 use Rattle.score.specs.Rows.{RowIs}
@@ -21,7 +21,7 @@ use Rattle.words.specs.Meant.{rowingOf}
 use Rattle.words.specs.Voices.{voiceIn}
 
 -- the tables that a row is entered in, with what is kept and the words of its voice
-abbrev pub rowingIn : (rows members points : List ℕ) → Kept → (voice : List ℕ) → Rowing Words
+abbrev pub rowingIn : (rows members points : List ℕ) → KeptCounts → (voice : List ℕ) → Rowing Words
 rowingIn rows members points kept voice = rowingOf rows members points kept (voiceIn voice)
 
 -- what a row holds of its members
@@ -61,7 +61,7 @@ expressionOf r =
       head = r .head;
     }
 
-abbrev pub keptAfter : Company → Bent → Kept → Kept
+abbrev pub keptAfter : Company → Bent → KeptCounts → KeptCounts
 keptAfter company bent kept =
     record {
       rows = wordPlus (kept .rows) 1;
@@ -69,7 +69,7 @@ keptAfter company bent kept =
       points = wordPlus (kept .points) (bent .count);
     }
 
-abbrev pub voiceAfter : RowIs → Kept → Voice → Voice
+abbrev pub voiceAfter : RowIs → KeptCounts → Voice → Voice
 voiceAfter r kept voice =
     record {
       frets = voice .frets;

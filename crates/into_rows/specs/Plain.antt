@@ -5,7 +5,7 @@ use Rattle.curve.specs.declared.level.Level.{Level}
 use Rattle.model.specs.declared.Arpeggio.the-variants.{NoArpeggio}
 use Rattle.model.specs.declared.Ottava.the-variants.{NoOttava}
 use Rattle.model.specs.declared.OttavaMarks.{OttavaMarks}
-use Rattle.model.specs.declared.Place.{Place}
+use Rattle.model.specs.declared.RowPlace.{RowPlace}
 use Rattle.model.specs.declared.RowKind.the-variants as K
 use Rattle.model.specs.declared.Technique.the-variants.{NoTechnique}
 use Rattle.model.specs.declared.TechniqueText.the-variants.{NoText}
@@ -21,7 +21,7 @@ abbrev pub noMarks : OttavaMarks
 noMarks = record { start = NoOttava; end = false }
 
 -- `beatRow` of Rows where neither the beat nor a note has effects, and the mark is known
-unfoldable pub plainRow : Place → Fretboard → Bool → Level → BeatIs → List Keyed → RowIs
+unfoldable pub plainRow : RowPlace → Fretboard → Bool → Level → BeatIs → List Keyed → RowIs
 plainRow place board flat mark b xs =
     record {
       place = place;

@@ -10,12 +10,12 @@ use draft::chord::Chord;
 use draft::graces::graces_of;
 use draft::rows::beat_row;
 use draft::rows::grace_row;
-use model::Place;
 use model::RowKind;
+use model::RowPlace;
 use model::Span;
 use note::places::Notes;
 use score::Fretboard;
-use score::Kept;
+use score::KeptCounts;
 use words::plus;
 use words::voice;
 use words::voice::VoiceWords;
@@ -35,10 +35,10 @@ ghost use Rattle.words.specs.Words.{words};
 ghost use Rattle.words.specs.Voices.{voiceIn};
 ghost use Rattle.into_rows.specs.Entry.{Sums, rowingIn, keptAfter, voiceAfter};
 
-fn kept_after(company: Company, bent: Bent, kept: Kept) -> Kept
+fn kept_after(company: Company, bent: Bent, kept: KeptCounts) -> KeptCounts
     ensures { λ r. ⌜ r ≡ keptAfter company bent kept ⌝ }
 {
-    Kept {
+    KeptCounts {
         rows: plus(kept.rows, 1),
         members: plus(kept.members, company.count),
         points: plus(kept.points, bent.count),
@@ -55,7 +55,7 @@ fn last_after(kind: RowKind, own: Span, last: Span) -> Span
     }
 }
 
-fn turn_voice(draft: Draft, company: Company, kept: Kept, voice: &mut VoiceWords)
+fn turn_voice(draft: Draft, company: Company, kept: KeptCounts, voice: &mut VoiceWords)
     ensures { λ _. ⌜ ((ms : List Member) (ps : List Point)
         → Sums ms company
         → voiceIn (now (voice .exit))
@@ -75,11 +75,11 @@ fn keep_row(
     s: &[u8],
     draft: Draft,
     company: Company,
-    kept: Kept,
+    kept: KeptCounts,
     voice: &mut VoiceWords,
     rows: &mut [u32],
     points: &mut [u32],
-) -> Kept
+) -> KeptCounts
     ensures { λ r. ⌜ ((ms : List Member) (members : List ℕ) → Sums ms company →
         rowingIn (now (rows .exit)) (keepRow (words (now (s .entry))) (draftIn (now (s .entry)) ms draft) (rowingIn (now (rows .entry)) members (now (points .entry)) kept (now (voice .entry))) .members) (now (points .exit)) r (now (voice .exit))
         ≡ keepRow (words (now (s .entry))) (draftIn (now (s .entry)) ms draft)
@@ -97,17 +97,17 @@ fn keep_row(
 fn keep_graces(
     s: &[u8],
     v: u32,
-    place: Place,
+    place: RowPlace,
     board: Fretboard,
     flat: bool,
     notes: &Notes,
     chord: &[u32],
-    kept: Kept,
+    kept: KeptCounts,
     voice: &mut VoiceWords,
     rows: &mut [u32],
     members: &mut [u32],
     points: &mut [u32],
-) -> Kept
+) -> KeptCounts
     requires { ⌜ length (now chord) ≤ 7 ⌝ }
     ensures { λ r. ⌜ rowingIn (now (rows .exit)) (now (members .exit)) (now (points .exit)) r (now (voice .exit))
         ≡ keepRows (words (now (s .entry))) (graceRows place board flat (graces (chordIn (now (s .entry)) v (now (notes .entry)) (now (chord .entry)))))
@@ -126,19 +126,19 @@ fn keep_graces(
 fn keep_own(
     s: &[u8],
     v: u32,
-    place: Place,
+    place: RowPlace,
     board: Fretboard,
     flat: bool,
     running: u8,
     b: &Beat,
     notes: &Notes,
     chord: &[u32],
-    kept: Kept,
+    kept: KeptCounts,
     voice: &mut VoiceWords,
     rows: &mut [u32],
     members: &mut [u32],
     points: &mut [u32],
-) -> Kept
+) -> KeptCounts
     requires { ⌜ length (now chord) ≤ 7 ⌝ }
     ensures { λ r. ⌜ rowingIn (now (rows .exit)) (now (members .exit)) (now (points .exit)) r (now (voice .exit))
         ≡ keepRow (words (now (s .entry))) (beatRow place board flat running (beatIn (now (s .entry)) v (now (b .entry)) (now (notes .entry)))
@@ -162,7 +162,7 @@ pub(crate) fn size_of(count: usize) -> usize
 fn keep_rows(
     s: &[u8],
     v: u32,
-    place: Place,
+    place: RowPlace,
     board: Fretboard,
     flat: bool,
     running: u8,
@@ -170,12 +170,12 @@ fn keep_rows(
     notes: &Notes,
     chord: &[u32],
     size: usize,
-    kept: Kept,
+    kept: KeptCounts,
     voice: &mut VoiceWords,
     rows: &mut [u32],
     members: &mut [u32],
     points: &mut [u32],
-) -> Kept
+) -> KeptCounts
     requires { ⌜ (size ≤ 7) × (size ≤ length (now chord)) ⌝ }
     ensures { λ r. ⌜ rowingIn (now (rows .exit)) (now (members .exit)) (now (points .exit)) r (now (voice .exit))
         ≡ keepRows (words (now (s .entry))) (rowsOf place board flat running (beatIn (now (s .entry)) v (now (b .entry)) (now (notes .entry)))
@@ -219,7 +219,7 @@ fn keep_rows(
 pub fn keep_beat(
     s: &[u8],
     v: u32,
-    place: Place,
+    place: RowPlace,
     board: Fretboard,
     flat: bool,
     running: u8,
@@ -227,12 +227,12 @@ pub fn keep_beat(
     notes: &Notes,
     chord: &Chord,
     count: usize,
-    kept: Kept,
+    kept: KeptCounts,
     voice: &mut VoiceWords,
     rows: &mut [u32],
     members: &mut [u32],
     points: &mut [u32],
-) -> Kept
+) -> KeptCounts
     ensures { λ r. ⌜ rowingIn (now (rows .exit)) (now (members .exit)) (now (points .exit)) r (now (voice .exit))
         ≡ keepBeat (words (now (s .entry))) place board flat running (beatIn (now (s .entry)) v (now (b .entry)) (now (notes .entry)))
         (chordIn (now (s .entry)) v (now (notes .entry)) (take count (now (chord .entry))))

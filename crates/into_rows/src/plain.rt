@@ -22,13 +22,13 @@ use beat::places::Beat;
 use curve::level::Level;
 use draft::chord::Chord;
 use entries::rows::set_technique;
-use model::Place;
+use model::RowPlace;
 use model::Technique;
 use model::kinds;
 use note::places::Notes;
 use score::Fretboard;
 use score::Hammer;
-use score::Kept;
+use score::KeptCounts;
 use score::OttavaRun;
 use words::plus;
 use words::voice;
@@ -44,13 +44,13 @@ fn mark_word(mark: Level) -> u32
 // The words of the row, after those that are kept.
 fn store_plain(
     rows: &mut [u32],
-    place: Place,
+    place: RowPlace,
     mark: Level,
     b: &Beat,
     notes: &Notes,
     chord: &[u32],
     company: Company,
-    kept: Kept,
+    kept: KeptCounts,
 )
     ensures { λ _. ⌜ ((s : List ℕ) (v : ℕ) (board : Fretboard) (flat : Bool) → Sums (map (memberOf board flat) (chordIn s v (now (notes .entry)) (now (chord .entry)))) company →
         now (rows .exit) ≡ sets (now (rows .entry)) (kept .rows * rowStride)
@@ -96,7 +96,7 @@ fn store_plain(
 
 // A row with the hammer mark turns pull-off when this one starts on a lower key.
 fn turn_hammer(rows: &mut [u32], hammer: Hammer, company: Company)
-    ensures { λ _. ⌜ ((place : Place) (board : Fretboard) (flat : Bool) (mark : Level) (x : BeatIs) (xs : List Keyed) → Sums (map (memberOf board flat) xs) company →
+    ensures { λ _. ⌜ ((place : RowPlace) (board : Fretboard) (flat : Bool) (mark : Level) (x : BeatIs) (xs : List Keyed) → Sums (map (memberOf board flat) xs) company →
         now (rows .exit) ≡ turnHammer (words []) hammer (plainRow place board flat mark x xs) (now (rows .entry))) ⌝ }
 {
     let Hammer::Waits(n, key) = hammer else {
@@ -109,7 +109,7 @@ fn turn_hammer(rows: &mut [u32], hammer: Hammer, company: Company)
 
 // An ottava goes on over a rest of its kind alone: over a plain one only where it is none.
 fn run_left(rest: bool, run: OttavaRun) -> OttavaRun
-    ensures { λ r. ⌜ ((n : ℕ) (place : Place) (board : Fretboard) (flat : Bool) (mark : Level) (x : BeatIs) (xs : List Keyed) → rest ≡ isRest xs →
+    ensures { λ r. ⌜ ((n : ℕ) (place : RowPlace) (board : Fretboard) (flat : Bool) (mark : Level) (x : BeatIs) (xs : List Keyed) → rest ≡ isRest xs →
         r ≡ runAfter n (plainRow place board flat mark x xs) run) ⌝ }
 {
     let OttavaRun::Over(_, kind) = run else {
@@ -129,7 +129,7 @@ fn points_kept(points: u32) -> u32
 }
 
 fn keep_row(
-    place: Place,
+    place: RowPlace,
     board: Fretboard,
     flat: bool,
     mark: Level,
@@ -137,11 +137,11 @@ fn keep_row(
     notes: &Notes,
     chord: &[u32],
     size: usize,
-    kept: Kept,
+    kept: KeptCounts,
     voice: &mut VoiceWords,
     rows: &mut [u32],
     members: &mut [u32],
-) -> Kept
+) -> KeptCounts
     requires { ⌜ (size ≤ 7) × (size ≤ length (now chord)) ⌝ }
     ensures { λ r. ⌜ ((s : List ℕ) (v : ℕ) (points : List ℕ) →
         rowingIn (now (rows .exit)) (now (members .exit)) points r (now (voice .exit))
@@ -160,7 +160,7 @@ fn keep_row(
     voice::put_hammer(voice, Hammer::NoHammer);
     voice::put_last(voice, own);
     voice::put_run(voice, run);
-    Kept {
+    KeptCounts {
         rows: plus(kept.rows, 1),
         members: plus(kept.members, company.count),
         points: points_kept(kept.points),
@@ -169,7 +169,7 @@ fn keep_row(
 
 // The first `count` notes of the chord sound.
 pub fn keep_plain(
-    place: Place,
+    place: RowPlace,
     board: Fretboard,
     flat: bool,
     mark: Level,
@@ -177,11 +177,11 @@ pub fn keep_plain(
     notes: &Notes,
     chord: &Chord,
     count: usize,
-    kept: Kept,
+    kept: KeptCounts,
     voice: &mut VoiceWords,
     rows: &mut [u32],
     members: &mut [u32],
-) -> Kept
+) -> KeptCounts
     ensures { λ r. ⌜ ((s : List ℕ) (v : ℕ) (points : List ℕ) →
         rowingIn (now (rows .exit)) (now (members .exit)) points r (now (voice .exit))
         ≡ keepRow (words s) (plainRow place board flat mark (beatIn s v (now (b .entry)) (now (notes .entry)))

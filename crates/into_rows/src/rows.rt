@@ -17,7 +17,7 @@ use model::Technique;
 use model::TechniqueText;
 use model::kinds;
 use score::Hammer;
-use score::Kept;
+use score::KeptCounts;
 use score::OttavaRun;
 use words::voice;
 use words::voice::VoiceWords;
@@ -199,7 +199,13 @@ fn expression_of(draft: Draft) -> Expression
 }
 
 // The entry of a row whose ottava marks are given.
-fn row_entry(draft: Draft, company: Company, bent: Bent, marks: OttavaMarks, kept: Kept) -> Row
+fn row_entry(
+    draft: Draft,
+    company: Company,
+    bent: Bent,
+    marks: OttavaMarks,
+    kept: KeptCounts,
+) -> Row
     ensures { λ r. ⌜ ((ms : List Member) (ps : List Point) → Sums ms company → Bends ps bent →
         r ≡ rowEntry (drawn ms ps draft) marks kept) ⌝ }
 {
@@ -230,7 +236,7 @@ pub(crate) fn add_row(
     draft: Draft,
     company: Company,
     bent: Bent,
-    kept: Kept,
+    kept: KeptCounts,
     voice: &VoiceWords,
 )
     ensures { λ _. ⌜ ((ms : List Member) (ps : List Point) → Sums ms company → Bends ps bent → now (rows .exit)

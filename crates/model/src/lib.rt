@@ -128,7 +128,7 @@ pub struct Track {
 
 // ---- rows
 
-pub struct Place {
+pub struct RowPlace {
     pub bar: u32,
     pub track: u32,
     pub voice: u32,
@@ -279,7 +279,7 @@ pub enum Finger {
 }
 
 pub struct Row {
-    pub place: Place,
+    pub place: RowPlace,
     pub kind: RowKind,
     pub rest: bool,
     pub value: NoteValue,

@@ -13,11 +13,11 @@ use Rattle.model.specs.declared.RowKind.{RowKind}
 use Rattle.model.specs.declared.RowKind.the-variants.{Grace, Beat}
 use Rattle.model.specs.declared.Span.{Span}
 use Rattle.model.specs.declared.OttavaMarks.{OttavaMarks}
-use Rattle.model.specs.declared.Place.{Place}
+use Rattle.model.specs.declared.RowPlace.{RowPlace}
 use Rattle.score.specs.declared.Fretboard.{Fretboard}
 use Rattle.score.specs.declared.Hammer.{Hammer}
 use Rattle.score.specs.declared.Hammer.the-variants.{NoHammer, Waits}
-use Rattle.score.specs.declared.Kept.{Kept}
+use Rattle.score.specs.declared.KeptCounts.{KeptCounts}
 use Rattle.score.specs.declared.OttavaRun.{OttavaRun}
 use Rattle.score.specs.declared.OttavaRun.the-variants.{NoRun, Over}
 use Rattle.beat.specs.Beat.{BeatIs}
@@ -170,7 +170,7 @@ module _ (t v : ℕ) (cs : List Chord) (r : RowIs) (q : Ready t v r) where
       go Grace own = refl
       go Beat own = refl
 
-  row-seen : (marks : OttavaMarks) (kept : Kept) → kept .members ≡ total cs
+  row-seen : (marks : OttavaMarks) (kept : KeptCounts) → kept .members ≡ total cs
       → Seen (0 + total cs) (rowEntry r marks kept) (chordOf r)
   unfolding rowEntry
   row-seen marks kept e =
@@ -226,7 +226,7 @@ graces-end board flat [] = tt
 graces-end board flat (g ∷ gs) = (refl, graces-end board flat gs)
 
 module _ (bar t v : ℕ) (board : Fretboard) (flat : Bool) (running : ℕ) (b : BeatIs) where
-  abbrev place : Place
+  abbrev place : RowPlace
   place = record { bar = bar; track = t; voice = v }
 
   beat-ready : (xs : List Keyed) → Ready t v (beatRow place board flat running b xs)

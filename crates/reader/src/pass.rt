@@ -5,7 +5,7 @@ use model::Key;
 use model::Mode;
 use model::Time;
 use score::Before;
-use score::Kept;
+use score::KeptCounts;
 use score::Tally;
 ghost use mathlib.Core.Path.{_≡_};
 ghost use Rattle.words.specs.Lent.{lentOf};
@@ -37,7 +37,7 @@ fn before_beats(losses: [u32; 17]) -> Tally
     ensures { λ r. ⌜ r ≡ started.beforeBeats losses ⌝ }
 {
     Tally {
-        kept: Kept {
+        kept: KeptCounts {
             rows: 0,
             members: 0,
             points: 0,

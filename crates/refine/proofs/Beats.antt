@@ -7,7 +7,7 @@ use native.Mathlib.Omega.{arith}
 use lib.ListN.{length, getD}
 use Rattle.format.specs.Verdict.{LIMIT}
 use Rattle.format.specs.Text.{pick}
-use Rattle.model.specs.declared.Place.{Place}
+use Rattle.model.specs.declared.RowPlace.{RowPlace}
 use Rattle.beat.specs.Beat.{BeatIs}
 use Rattle.score.specs.declared.Fretboard.{Fretboard}
 use Rattle.score.specs.declared.Part.{Part}
@@ -37,10 +37,10 @@ use Rattle.refine.proofs.Shown.{pick-both}
 
 -- ---- a beat in two steps: its rows, and what becomes of the walk then
 
-abbrev rowsFor : Place → Fretboard → Bool → ℕ → BeatIs → List Keyed → List RowIs
+abbrev rowsFor : RowPlace → Fretboard → Bool → ℕ → BeatIs → List Keyed → List RowIs
 rowsFor place board flat running b xs = pick (b .head .kept) (rowsOf place board flat running b xs) []
 
-abbrev placeOf : (bar track voice : ℕ) → Place
+abbrev placeOf : (bar track voice : ℕ) → RowPlace
 placeOf bar track voice = record { bar = bar; track = track; voice = voice }
 
 module _ {T : Kind → Type 0} (the : Operations T) where

@@ -15,7 +15,7 @@ use Rattle.format.specs.Verdict.{LIMIT, upTo}
 use Rattle.format.specs.Prog.{Res, ok, stopped, run}
 use Rattle.format.specs.Text.{pick}
 use Rattle.format.specs.Yields.{Bytes}
-use Rattle.model.specs.declared.Place.{Place}
+use Rattle.model.specs.declared.RowPlace.{RowPlace}
 use Rattle.note.specs.declared.marks.GraceNote.{GraceNote}
 use Rattle.note.specs.declared.marks.GraceNote.the-variants.{NoGrace, Before}
 use Rattle.note.specs.Note.{NoteIs, noNote}
@@ -23,7 +23,7 @@ use Rattle.beat.specs.Beat.{BeatIs}
 use Rattle.score.specs.declared.Fretboard.{Fretboard}
 use Rattle.score.specs.declared.Hammer.{Hammer}
 use Rattle.score.specs.declared.Hammer.the-variants.{NoHammer, Waits}
-use Rattle.score.specs.declared.Kept.{Kept}
+use Rattle.score.specs.declared.KeptCounts.{KeptCounts}
 use Rattle.score.specs.declared.OttavaRun.{OttavaRun}
 use Rattle.score.specs.declared.OttavaRun.the-variants.{NoRun, Over}
 use Rattle.score.specs.declared.Remembered.{Remembered}
@@ -106,11 +106,11 @@ count-graces (x ∷ xs) = omega (arith, count-graced (x .sound .note .read .effe
 
 -- ---- what is kept of a beat
 
-record SameCount (k l : Kept) : Type 0 where
+record SameCount (k l : KeptCounts) : Type 0 where
   rows : k .rows ≡ l .rows
   members : k .members ≡ l .members
 
-module _ (s : List ℕ) (at : Place) (board : Fretboard) (flat : Bool) (running : ℕ) (b : BeatIs) where
+module _ (s : List ℕ) (at : RowPlace) (board : Fretboard) (flat : Bool) (running : ℕ) (b : BeatIs) where
   beat-members : (xs : List Keyed) → length (beatRow at board flat running b xs .members) ≡ length xs
   unfolding restRow chordRow
   beat-members [] = refl
@@ -190,7 +190,7 @@ record Counted (x y : Walk Words) : Type 0 where
   text-room : x .tally .«text_room» ≡ y .tally .«text_room»
   point-room : x .tally .«point_room» ≡ y .tally .«point_room»
 
-same-with : (n g : ℕ) (k l : Kept) → SameCount k l → SameCount (keptWith n g k) (keptWith n g l)
+same-with : (n g : ℕ) (k l : KeptCounts) → SameCount k l → SameCount (keptWith n g k) (keptWith n g l)
 same-with n g k l e = record { rows = rw (e .rows); members = rw (e .members) }
 
 module _ (s : List ℕ) (bar track voice : ℕ) (b : BeatIs) (seven : length (b .notes) ≡ 7) (x y : Walk Words) (r : Counted x y) where
@@ -220,7 +220,7 @@ module _ (s : List ℕ) (bar track voice : ℕ) (b : BeatIs) (seven : length (b 
   unfolding rowsOf
   rowed-count running = go (b .head .kept)
     where
-      place : Place
+      place : RowPlace
       place = record { bar = bar; track = track; voice = voice }
 
       counted : SameCount (keepRows (words s) (rowsOf place board (x .tally .flat) running b xs) read .kept)

@@ -7,7 +7,7 @@ use mathlib.Core.List.{List, [], _∷_, _++_, map}
 use native.Mathlib.Omega.{arith}
 use lib.ListN.{length, length-map}
 use Rattle.model.specs.declared.Member.{Member}
-use Rattle.model.specs.declared.Place.{Place}
+use Rattle.model.specs.declared.RowPlace.{RowPlace}
 use Rattle.model.specs.declared.Point.{Point}
 use Rattle.curve.specs.Bend.{finish, pointOf}
 use Rattle.curve.proofs.Laws.{finish-room}
@@ -129,7 +129,7 @@ module _ (board : Fretboard) (flat : Bool) (room : ℕ) where
 
 -- ---- the rows
 
-module _ (place : Place) (board : Fretboard) (flat : Bool) (running : ℕ) (b : BeatIs) (room : ℕ) where
+module _ (place : RowPlace) (board : Fretboard) (flat : Bool) (running : ℕ) (b : BeatIs) (room : ℕ) where
   beat-row-fit : (xs : List Keyed) → All (KeyedFits board room) xs → RowFit (beatRow place board flat running b xs)
   unfolding restRow chordRow memberOf
   beat-row-fit [] q = record { key = omega arith; strings = tt }
@@ -171,7 +171,7 @@ module _ (place : Place) (board : Fretboard) (flat : Bool) (running : ℕ) (b : 
 
 -- ---- with one flat preference and with another
 
-module _ (place : Place) (board : Fretboard) (f g : Bool) (running : ℕ) (b : BeatIs) where
+module _ (place : RowPlace) (board : Fretboard) (f g : Bool) (running : ℕ) (b : BeatIs) where
   beat-alike : (xs : List Keyed) → AlikeRow (beatRow place board f running b xs) (beatRow place board g running b xs)
   unfolding restRow chordRow memberOf
   beat-alike [] = alike-self (restRow place b)

@@ -10,7 +10,7 @@ use borrow.Author.Tests.{leb-true}
 use lib.Dec.{leb}
 use lib.ListN.{length}
 use Rattle.entries.specs.Words.{barStride, rowStride, memberStride, pointStride, textStride}
-use Rattle.score.specs.declared.Kept.{Kept}
+use Rattle.score.specs.declared.KeptCounts.{KeptCounts}
 use Rattle.score.specs.File.{Whole}
 use Rattle.score.proofs.Follow.{Agreed}
 use Rattle.score.specs.Page.{Staves, Walk}
@@ -46,17 +46,17 @@ module _ (s : List ℕ) (t : Lent) (x : Score) (y : WordScore) (n : ℕ) (r : Ag
   pub needed-shown : neededBy (y .song .counts) (y .bars .tally) ≡ needed x
   needed-shown =
       rw (sym (r .song)) (same-sizes (sym (r .bars .bars-number)) (sym (r .tracks .tracks-number))
-      (ap (λ (k : Kept). k .rows) (r .bars .kept) ∙ r .bars .rows-number)
-      (ap (λ (k : Kept). k .members) (r .bars .kept) ∙ r .bars .members-number)
+      (ap (λ (k : KeptCounts). k .rows) (r .bars .kept) ∙ r .bars .rows-number)
+      (ap (λ (k : KeptCounts). k .members) (r .bars .kept) ∙ r .bars .members-number)
       (r .bars .point-room) (r .bars .text-room))
 
   -- the entries kept, where they are there
   pub entries-shown : Room s t (x .bars) → entriesBy (y .song .counts) (y .bars .tally) ≡ entries x
   entries-shown m =
       rw (sym (r .song)) (same-sizes (sym (r .bars .bars-number)) (sym (r .tracks .tracks-number))
-      (ap (λ (k : Kept). k .rows) (r .bars .kept) ∙ r .bars .rows-number)
-      (ap (λ (k : Kept). k .members) (r .bars .kept) ∙ r .bars .members-number)
-      (ap (λ (k : Kept). k .points) (r .bars .kept) ∙ r .bars .points-number)
+      (ap (λ (k : KeptCounts). k .rows) (r .bars .kept) ∙ r .bars .rows-number)
+      (ap (λ (k : KeptCounts). k .members) (r .bars .kept) ∙ r .bars .members-number)
+      (ap (λ (k : KeptCounts). k .points) (r .bars .kept) ∙ r .bars .points-number)
       (r .bars .tables m .texts-number ∙ r .bars .texts-number))
 
 -- ---- room in whole entries is room in words

@@ -17,7 +17,7 @@ use Rattle.model.specs.declared.Loss.the-variants.{TripletFeel, UnsupportedDire
 use Rattle.model.specs.declared.Member.{Member}
 use Rattle.model.specs.declared.Ottava.the-variants.{NoOttava}
 use Rattle.model.specs.declared.OttavaMarks.{OttavaMarks}
-use Rattle.model.specs.declared.Place.{Place}
+use Rattle.model.specs.declared.RowPlace.{RowPlace}
 use Rattle.model.specs.declared.Point.{Point}
 use Rattle.model.specs.declared.Row.{Row}
 use Rattle.model.specs.declared.RowKind.{RowKind}
@@ -45,7 +45,7 @@ use Rattle.score.specs.declared.Before.{Before}
 use Rattle.score.specs.declared.Fretboard.{Fretboard}
 use Rattle.score.specs.declared.Hammer.{Hammer}
 use Rattle.score.specs.declared.Hammer.the-variants.{NoHammer, Waits}
-use Rattle.score.specs.declared.Kept.{Kept}
+use Rattle.score.specs.declared.KeptCounts.{KeptCounts}
 use Rattle.score.specs.declared.OttavaRun.{OttavaRun}
 use Rattle.score.specs.declared.OttavaRun.the-variants.{NoRun, Over}
 use Rattle.score.specs.declared.Part.{Part}
@@ -143,7 +143,7 @@ abbrev pub dynamicAt : Level → Dynamic
 dynamicAt Absent = NoDynamic
 dynamicAt (Given n) = dynamicOf n
 
-unfoldable pub rowEntry : RowIs → OttavaMarks → Kept → Row
+unfoldable pub rowEntry : RowIs → OttavaMarks → KeptCounts → Row
 rowEntry r marks kept =
     record {
       place = r .place;
@@ -266,7 +266,7 @@ pub record Rowing (T : Kind → Type 0) : Type 0 where
   pub rows : T rows
   pub members : T members
   pub points : T points
-  pub kept : Kept
+  pub kept : KeptCounts
   pub voice : Voice
 
 -- room for curve points: over every note read with a non-empty bend, its points plus 2
@@ -384,7 +384,7 @@ module _ {T : Kind → Type 0} (the : Operations T) where
       }
 
   -- a beat that is not kept gives no row, but its frets are remembered
-  abbrev pub keepBeat : Place → Fretboard → Bool → ℕ → BeatIs → List Keyed → Rowing T → Rowing T
+  abbrev pub keepBeat : RowPlace → Fretboard → Bool → ℕ → BeatIs → List Keyed → Rowing T → Rowing T
   keepBeat place board flat running b xs w = pick (b .head .kept) (keepRows (rowsOf place board flat running b xs) w) w
 
   -- rests take no part in the running dynamic: a chord of no members keeps it

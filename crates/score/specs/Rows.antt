@@ -25,7 +25,7 @@ use Rattle.model.specs.declared.Point.{Point}
 use Rattle.model.specs.declared.RowKind.{RowKind}
 use Rattle.model.specs.declared.RowKind.the-variants as K
 use Rattle.model.specs.declared.Articulations.{Articulations}
-use Rattle.model.specs.declared.Place.{Place}
+use Rattle.model.specs.declared.RowPlace.{RowPlace}
 use Rattle.model.specs.Marks.{addOnce, packed}
 use Rattle.curve.specs.Bend.{pointOf, finish}
 use Rattle.curve.specs.Level.{chordOf, levelAfter}
@@ -48,7 +48,7 @@ use Rattle.score.specs.Members.{Keyed, Graced, graces, memberOf, graceMe
 
 -- a row with what belongs to it: which entries of the tables these become is said in Page
 pub record RowIs : Type 0 where
-  pub place : Place
+  pub place : RowPlace
   pub kind : RowKind
   pub rest : Bool
   pub value : NoteValue
@@ -186,7 +186,7 @@ abbrev pub valueOf : BeatIs → NoteValue
 valueOf b = record { duration = b .head .duration; dot = has (b .head .flags) 0x01; tuplet = b .head .tuplet }
 
 -- ---- a beat's row; a rest keeps chord name, dot and tuplet, and beat effects and dynamic don't apply to it
-unfoldable pub restRow : Place → BeatIs → RowIs
+unfoldable pub restRow : RowPlace → BeatIs → RowIs
 restRow place b =
     record {
       place = place;
@@ -205,7 +205,7 @@ restRow place b =
       chord = b .chord .range;
     }
 
-unfoldable pub chordRow : Place → Fretboard → Bool → ℕ → BeatIs → List Keyed → RowIs
+unfoldable pub chordRow : RowPlace → Fretboard → Bool → ℕ → BeatIs → List Keyed → RowIs
 chordRow place board flat running b xs =
     let p : Played = played noPlay xs in
     record {
@@ -240,7 +240,7 @@ abbrev pub graceHead : List Graced → NoteHead
 graceHead [] = Normal
 graceHead (g ∷ gs) = pick (g .grace .dead) Cross (graceHead gs)
 
-unfoldable pub graceRow : Place → Fretboard → Bool → List Graced → RowIs
+unfoldable pub graceRow : RowPlace → Fretboard → Bool → List Graced → RowIs
 graceRow place board flat gs =
     record {
       place = place;
@@ -260,14 +260,14 @@ graceRow place board flat gs =
     }
 
 -- a grace row stands directly before its beat's row
-abbrev pub graceRows : Place → Fretboard → Bool → List Graced → List RowIs
+abbrev pub graceRows : RowPlace → Fretboard → Bool → List Graced → List RowIs
 graceRows place board flat [] = []
 graceRows place board flat (g ∷ gs) = graceRow place board flat (g ∷ gs) ∷ []
 
-abbrev pub beatRow : Place → Fretboard → Bool → ℕ → BeatIs → List Keyed → RowIs
+abbrev pub beatRow : RowPlace → Fretboard → Bool → ℕ → BeatIs → List Keyed → RowIs
 beatRow place board flat running b [] = restRow place b
 beatRow place board flat running b (x ∷ xs) = chordRow place board flat running b (x ∷ xs)
 
-unfoldable pub rowsOf : Place → Fretboard → Bool → ℕ → BeatIs → List Keyed → List RowIs
+unfoldable pub rowsOf : RowPlace → Fretboard → Bool → ℕ → BeatIs → List Keyed → List RowIs
 rowsOf place board flat running b xs =
     graceRows place board flat (graces xs) ++ (beatRow place board flat running b xs ∷ [])

@@ -62,7 +62,7 @@ pub struct Before {
 }
 
 // Rows, members and curve points kept.
-pub struct Kept {
+pub struct KeptCounts {
     pub rows: u32,
     pub members: u32,
     pub points: u32,
@@ -70,7 +70,7 @@ pub struct Kept {
 
 // What is kept, texts too; the rooms needed of points and texts; whether flats are preferred in the bar; the seventeen losses.
 pub struct Tally {
-    pub kept: Kept,
+    pub kept: KeptCounts,
     pub texts: u32,
     pub text_room: u32,
     pub point_room: u32,

@@ -7,7 +7,7 @@ ghost use Rattle.model.specs.Answers.{noLyrics};
 ghost use Rattle.song.specs.Info as info;
 use crate::from_zero;
 use bin::NEGATIVE;
-use bin::string::Kept;
+use bin::string::StringRead;
 use bin::string::int_byte_string_unused;
 use bin::string::int_byte_string_unused_past;
 use format::Counted;
@@ -84,14 +84,14 @@ fn names_at(s: &[u8], from: Place) -> NamesRead
 }
 
 // The music credit from v500 on; before, it is the words.
-fn music_at(s: &[u8], from: Place, v: u32, words: Range) -> Kept
+fn music_at(s: &[u8], from: Place, v: u32, words: Range) -> StringRead
     ensures { λ r. ⌜ Reaches (info.music v (textIn (now (s .entry)) words)) (now (s .entry)) from
         (textIn (now (s .entry)) (r .range)) (r .next) ⌝ }
 {
     if 500 <= v {
         return int_byte_string_unused(s, from);
     }
-    Kept {
+    StringRead {
         range: words,
         next: from,
     }

@@ -25,13 +25,13 @@ use model::Ottava;
 use model::OttavaMarks;
 use model::Passes;
 use model::PerMille;
-use model::Place;
 use model::Playing;
 use model::Point;
 use model::Program;
 use model::Repeats;
 use model::Row;
 use model::RowKind;
+use model::RowPlace;
 use model::Span;
 use model::TabPosition;
 use model::Technique;
@@ -134,7 +134,7 @@ fn a_playing() -> Playing {
 
 // The beat of bar 4, track 1, voice 0: two members in a dotted eighth of a triplet, palm-muted and bent.
 fn a_row() -> Row {
-    let place = Place {
+    let place = RowPlace {
         bar: 4,
         track: 1,
         voice: 0,

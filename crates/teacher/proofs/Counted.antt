@@ -4,7 +4,7 @@ use mathlib.Core.Path.{_≡_, refl, ap, _∙_}
 use mathlib.Core.Bool.{Bool, true, false}
 use mathlib.Core.List.{List, [], _∷_, reverse, reverseAux}
 use Rattle.format.specs.Text.{pick}
-use Rattle.model.specs.declared.Place.{Place}
+use Rattle.model.specs.declared.RowPlace.{RowPlace}
 use Rattle.score.specs.declared.Fretboard.{Fretboard}
 use Rattle.score.specs.Members.{Graced, graces}
 use Rattle.told.specs.Told.{TrackTold, BeatTold, Event, enters, plays}
@@ -12,7 +12,7 @@ use Rattle.teacher.specs.Teacher.{boardIn, SeenRow, beatRows, beatsKept}
 use Rattle.teacher.proofs.Walk.{gracesSeen, notesOf, placeOf, gracesRead, rowsRead, pageOf, page-same, rows-back}
 use Rattle.teacher.proofs.Walk.{page-back}
 
-graces-uncounted : (place : Place) (board : Fretboard) (gs : List Graced) (before : List SeenRow)
+graces-uncounted : (place : RowPlace) (board : Fretboard) (gs : List Graced) (before : List SeenRow)
     → beatRows (reverseAux (gracesSeen place board gs) before) ≡ beatRows before
 graces-uncounted place board [] before = refl
 graces-uncounted place board (g ∷ gs) before = refl

@@ -7,7 +7,7 @@ use mathlib.Core.List.{List, [], _∷_, map, reverse, reverseAux}
 use Rattle.format.specs.Prog.{ok, run}
 use Rattle.format.specs.Text.{pick}
 use Rattle.format.specs.Yields.{Bytes}
-use Rattle.model.specs.declared.Place.{Place}
+use Rattle.model.specs.declared.RowPlace.{RowPlace}
 use Rattle.model.specs.declared.TabPosition.{TabPosition}
 use Rattle.model.specs.declared.TabPosition.the-variants.{OffTablature, Fretted}
 use Rattle.score.specs.declared.Fretboard.{Fretboard}
@@ -32,7 +32,7 @@ use Rattle.teacher.proofs.Finished.{RowHas, member-has}
 use Rattle.teacher.proofs.Shown.{below, graces-pass, shown-is-read}
 
 -- ---- what is to be shown
-abbrev TieShown : List SeenRow → Place → Seen → Type 0
+abbrev TieShown : List SeenRow → RowPlace → Seen → Type 0
 TieShown before place m =
     m .tied ≡ true → (string fret : ℕ) → m .position ≡ Fretted string fret
     → SameFret fret (lastShown (place .track) (place .voice) string before)

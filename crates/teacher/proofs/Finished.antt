@@ -7,7 +7,7 @@ use mathlib.Core.List.{List, [], map, reverse}
 use lib.ListN.{length, getD, take, drop, length-drop, length-map, List·getD-map}
 use lib.Seq.{getD-take, getD-drop, length-take-le}
 use Rattle.model.specs.declared.Member.{Member}
-use Rattle.model.specs.declared.Place.{Place}
+use Rattle.model.specs.declared.RowPlace.{RowPlace}
 use Rattle.model.specs.declared.Row.{Row}
 use Rattle.model.specs.declared.Span.{Span}
 use Rattle.score.specs.Reading.{Score}
@@ -39,7 +39,7 @@ row-within tracks es x walked k d h =
     all-get (Within (length (x .bars .members))) (x .bars .rows) k d (walked .stands .within) h
 
 -- ---- M speaks of a member by the rows before its own, the latest first, and by the place of its row
-module _ (M : List SeenRow → Place → Seen → Type 0) where
+module _ (M : List SeenRow → RowPlace → Seen → Type 0) where
   abbrev pub RowHas : List SeenRow → SeenRow → Type 0
   RowHas before r = All (M before (r .place)) (r .members)
 

@@ -9,7 +9,7 @@ use borrow.Author.Tests.{eqb-true, eq-eqb, ltb-true}
 use lib.Dec.{eqb}
 use Rattle.format.specs.Prog.{has}
 use Rattle.format.specs.Text.{pick}
-use Rattle.model.specs.declared.Place.{Place}
+use Rattle.model.specs.declared.RowPlace.{RowPlace}
 use Rattle.note.specs.Notes.{stringBit}
 use Rattle.score.specs.declared.Fretboard.{Fretboard}
 use Rattle.score.specs.declared.LastFret.{LastFret}
@@ -104,7 +104,7 @@ module _ (tracks : List TrackTold) (track voice i : ℕ) (tablature : boardIn tr
   string = boardIn tracks track .strings .count - i
 
   -- a grace row is passed over
-  pub graces-pass : (place : Place) (board : Fretboard) (gs : List Graced) (before : List SeenRow)
+  pub graces-pass : (place : RowPlace) (board : Fretboard) (gs : List Graced) (before : List SeenRow)
       → lastShown track voice string (reverseAux (gracesSeen place board gs) before)
       ≡ lastShown track voice string before
   graces-pass place board [] before = refl

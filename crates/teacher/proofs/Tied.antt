@@ -6,7 +6,7 @@ use mathlib.Core.List.{List, [], _∷_, _++_, map, reverse, reverseAux}
 use Rattle.format.specs.Prog.{ok, run}
 use Rattle.format.specs.Text.{pick}
 use Rattle.format.specs.Yields.{Bytes}
-use Rattle.model.specs.declared.Place.{Place}
+use Rattle.model.specs.declared.RowPlace.{RowPlace}
 use Rattle.score.specs.declared.Fretboard.{Fretboard}
 use Rattle.score.specs.declared.LastFret.{LastFret}
 use Rattle.score.specs.Sounding.{noteAt}
@@ -30,14 +30,14 @@ use Rattle.teacher.proofs.File.{file-walked}
 
 -- ---- every row of the page that the events make
 module _ (tracks : List TrackTold) where
-  abbrev TiedIn : List Event → List SeenRow → Place → Seen → Type 0
+  abbrev TiedIn : List Event → List SeenRow → RowPlace → Seen → Type 0
   TiedIn es before place m = m .tied ≡ true → EndsTie tracks es before place m
 
   abbrev TiedRow : List Event → List SeenRow → SeenRow → Type 0
   TiedRow es before r = RowHas (TiedIn es) before r
 
   -- a later event leaves what was read before it
-  ends-later : (e : Event) (es : List Event) (before : List SeenRow) (place : Place) (m : Seen)
+  ends-later : (e : Event) (es : List Event) (before : List SeenRow) (place : RowPlace) (m : Seen)
       → EndsTie tracks es before place m → EndsTie tracks (e ∷ es) before place m
   ends-later e es before place m f =
       record {

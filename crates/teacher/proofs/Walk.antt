@@ -10,7 +10,7 @@ use lib.Dec.{eqb}
 use lib.ListN.{length, getD}
 use Rattle.format.specs.Text.{pick}
 use Rattle.tables.specs.Table.{change}
-use Rattle.model.specs.declared.Place.{Place}
+use Rattle.model.specs.declared.RowPlace.{RowPlace}
 use Rattle.model.specs.declared.RowKind.the-variants.{Grace, Beat}
 use Rattle.curve.specs.Key.{graceKey}
 use Rattle.beat.specs.Beat.{BeatIs}
@@ -47,14 +47,14 @@ seenGrace board g =
       tied = false;
     }
 
-abbrev pub chordSeen : Place → Fretboard → List Keyed → SeenRow
+abbrev pub chordSeen : RowPlace → Fretboard → List Keyed → SeenRow
 chordSeen place board xs = record { place = place; kind = Beat; members = map (seenNote board) xs }
 
-abbrev pub gracesSeen : Place → Fretboard → List Graced → List SeenRow
+abbrev pub gracesSeen : RowPlace → Fretboard → List Graced → List SeenRow
 gracesSeen place board [] = []
 gracesSeen place board (g ∷ gs) = record { place = place; kind = Grace; members = map (seenGrace board) (g ∷ gs) } ∷ []
 
-abbrev pub rowsSeen : Place → Fretboard → List Keyed → List SeenRow
+abbrev pub rowsSeen : RowPlace → Fretboard → List Keyed → List SeenRow
 rowsSeen place board xs = gracesSeen place board (graces xs) ++ (chordSeen place board xs ∷ [])
 
 map-twice : {A B C : Type 0} (f : B → C) (g : A → B) (h : A → C) → ((a : A) → f (g a) ≡ h a) → (xs : List A)
@@ -62,7 +62,7 @@ map-twice : {A B C : Type 0} (f : B → C) (g : A → B) (h : A → C) → ((a :
 map-twice f g h is [] = refl
 map-twice f g h is (x ∷ xs) = rw (is x, map-twice f g h is xs)
 
-module _ (place : Place) (board : Fretboard) (flat : Bool) where
+module _ (place : RowPlace) (board : Fretboard) (flat : Bool) where
   note-is : (x : Keyed) → seen (memberOf board flat x) ≡ seenNote board x
   unfolding memberOf
   note-is x = refl
@@ -90,7 +90,7 @@ module _ (place : Place) (board : Fretboard) (flat : Bool) where
       ∙ rw (graces-seen (graces xs), chord-seen running b xs)
 
 -- ---- the page that the events make, the latest first
-abbrev pub placeOf : BeatTold → Place
+abbrev pub placeOf : BeatTold → RowPlace
 placeOf b = record { bar = b .bar; track = b .track; voice = b .voice }
 
 module _ (tracks : List TrackTold) where

@@ -9,7 +9,7 @@ use lib.ListN.{length, getD, take, drop}
 use Rattle.format.specs.Prog.{ok, run}
 use Rattle.format.specs.Text.{pick}
 use Rattle.model.specs.declared.Member.{Member}
-use Rattle.model.specs.declared.Place.{Place}
+use Rattle.model.specs.declared.RowPlace.{RowPlace}
 use Rattle.model.specs.declared.Row.{Row}
 use Rattle.model.specs.declared.RowKind.{RowKind}
 use Rattle.model.specs.declared.RowKind.the-variants.{Grace, Beat}
@@ -80,7 +80,7 @@ seen m = record { key = m .key; position = m .position; tied = m .ties .end }
 
 -- of a row: where it stands, whether it is a beat's or a grace's, and its members
 pub record SeenRow : Type 0 where
-  pub place : Place
+  pub place : RowPlace
   pub kind : RowKind
   pub members : List Seen
 
@@ -136,14 +136,14 @@ pub record ReadAfter (events : List Event) (b : BeatTold) (earlier : List Event)
   pub is : events ≡ later ++ (plays b ∷ earlier)
 
 -- a beat in the bar, track and voice of a row
-abbrev pub beatAt : Place → BeatIs → BeatTold
+abbrev pub beatAt : RowPlace → BeatIs → BeatTold
 beatAt place b = record { bar = place .bar; track = place .track; voice = place .voice; beat = b }
 
 -- a member that ends a tie, in a row at this place: its beat was read in the row's own bar, track and voice, and was
 -- kept; as many kept beats were read before it as beats' rows stand before the row. A string sounds in it whose note is
 -- tied, and the member stands on that string, at the fret last read on it in that voice of that track, or at the note's
 -- own where none was read. Rows before and events are said from the latest back
-pub record EndsTie (tracks : List TrackTold) (events : List Event) (before : List SeenRow) (place : Place) (m : Seen)
+pub record EndsTie (tracks : List TrackTold) (events : List Event) (before : List SeenRow) (place : RowPlace) (m : Seen)
     : Type 0 where
   pub beat : BeatIs
   pub earlier : List Event

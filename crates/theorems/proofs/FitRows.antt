@@ -6,7 +6,7 @@ use mathlib.Core.List.{List, [], _∷_, map}
 use Rattle.format.specs.Text.{pick}
 use Rattle.model.specs.declared.Member.{Member}
 use Rattle.model.specs.declared.OttavaMarks.{OttavaMarks}
-use Rattle.model.specs.declared.Place.{Place}
+use Rattle.model.specs.declared.RowPlace.{RowPlace}
 use Rattle.model.specs.declared.Row.{Row}
 use Rattle.model.specs.declared.Span.{Span}
 use Rattle.model.specs.declared.TabPosition.the-variants.{OffTablature, Fretted}
@@ -18,7 +18,7 @@ use Rattle.beat.specs.Beat.{BeatIs}
 use Rattle.score.specs.declared.Fretboard.{Fretboard}
 use Rattle.score.specs.declared.Hammer.{Hammer}
 use Rattle.score.specs.declared.Hammer.the-variants.{NoHammer, Waits}
-use Rattle.score.specs.declared.Kept.{Kept}
+use Rattle.score.specs.declared.KeptCounts.{KeptCounts}
 use Rattle.score.specs.declared.OttavaRun.{OttavaRun}
 use Rattle.score.specs.declared.OttavaRun.the-variants.{NoRun, Over}
 use Rattle.score.proofs.Facts.{GraceFits, marks-few}
@@ -88,7 +88,7 @@ module _ (board : Fretboard) (fits : BoardFits board) (flat : Bool) (room : ℕ)
 
   -- ---- rows
 
-  module _ (place : Place) (running : ℕ) (b : BeatIs) (tuplet : TupletFits (b .head .tuplet))
+  module _ (place : RowPlace) (running : ℕ) (b : BeatIs) (tuplet : TupletFits (b .head .tuplet))
       (chord : RangeFits (b .chord .range)) where
     beat-row-held : (xs : List Keyed) → All (KeyedFits board room) xs → RowHeld (beatRow place board flat running b xs)
     unfolding restRow chordRow
@@ -131,7 +131,7 @@ pub record EntriesFit (w : Rowing Lists) : Type 0 where
   pub points : All PointFits (w .points)
   pub voice : VoiceFits (w .voice)
 
-entry-fits : (r : RowIs) (marks : OttavaMarks) (kept : Kept) → RowHeld r → RowFits (rowEntry r marks kept)
+entry-fits : (r : RowIs) (marks : OttavaMarks) (kept : KeptCounts) → RowHeld r → RowFits (rowEntry r marks kept)
 unfolding rowEntry
 entry-fits r marks kept f =
     record { tuplet = f .tuplet; height = height-fits (r .curve) (f .curve); count = f .count; chord = f .chord }

@@ -9,7 +9,7 @@ use Rattle.note.specs.declared.marks.GraceNote.{GraceNote}
 use Rattle.note.specs.declared.marks.GraceNote.the-variants.{NoGrace, Before}
 use Rattle.note.specs.Note.{NoteIs}
 use Rattle.beat.specs.Beat.{BeatIs}
-use Rattle.score.specs.declared.Kept.{Kept}
+use Rattle.score.specs.declared.KeptCounts.{KeptCounts}
 use Rattle.score.specs.declared.Tally.{Tally}
 use Rattle.score.specs.File.{Adding}
 use Rattle.score.specs.Sounding.{soundsOn}
@@ -38,7 +38,7 @@ heard each bits strings i (n ∷ ns) =
 -- ---- what is counted of a beat
 
 -- a row for the graces, if there are any, and one for the notes
-abbrev pub graced : (graces : ℕ) → Kept → Kept
+abbrev pub graced : (graces : ℕ) → KeptCounts → KeptCounts
 graced graces k =
     record {
       rows = pick (eqb graces 0) (k .rows) (wordPlus (k .rows) 1);
@@ -46,7 +46,7 @@ graced graces k =
       points = k .points;
     }
 
-abbrev pub keptWith : (notes graces : ℕ) → Kept → Kept
+abbrev pub keptWith : (notes graces : ℕ) → KeptCounts → KeptCounts
 keptWith notes graces k =
     record {
       rows = wordPlus (graced graces k .rows) 1;
@@ -57,7 +57,7 @@ keptWith notes graces k =
 abbrev pub stringsOn : (track : ℕ) → List ℕ → ℕ
 stringsOn track parts = boardFrom (track * partStride) parts .strings .count
 
-abbrev pub keptOf : (strings : ℕ) → BeatIs → Kept → Kept
+abbrev pub keptOf : (strings : ℕ) → BeatIs → KeptCounts → KeptCounts
 keptOf strings b k =
     pick (b .head .kept)
     (keptWith (heard oneNote (b .strings) strings 0 (b .notes)) (heard graceOf (b .strings) strings 0 (b .notes)) k)

@@ -1,14 +1,14 @@
 -- Slices with the values that go with them, as states of the definitions.
 use Prim.Native.Nat.{ℕ}
 use mathlib.Core.List.{List}
-use Rattle.score.specs.declared.Kept.{Kept}
+use Rattle.score.specs.declared.KeptCounts.{KeptCounts}
 use Rattle.score.specs.declared.Voice.{Voice}
 use Rattle.score.specs.declared.Tally.{Tally}
 use Rattle.score.specs.Page.{Rowing, Walk}
 use Rattle.words.specs.Words.{Words}
 
 -- the tables that a row is entered in, with what is remembered
-abbrev pub rowingOf : (rows members points : List ℕ) → Kept → Voice → Rowing Words
+abbrev pub rowingOf : (rows members points : List ℕ) → KeptCounts → Voice → Rowing Words
 rowingOf rows members points kept voice =
     record { rows = rows; members = members; points = points; kept = kept; voice = voice }
 
