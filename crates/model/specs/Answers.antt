@@ -24,18 +24,18 @@ pub record Numbers : Type 0 where
   pub which : ℕ
   pub value : ℤ
 
-abbrev pub only : ℕ → Numbers
-only n = record { number = n; which = 0; value = pos 0 }
+abbrev pub justNumber : ℕ → Numbers
+justNumber n = record { number = n; which = 0; value = pos 0 }
 
 -- the seven outcomes
 abbrev pub numbersOf : Outcome → Numbers
-numbersOf Read = only 0
-numbersOf Truncated = only 1
-numbersOf Version = only 2
+numbersOf Read = justNumber 0
+numbersOf Truncated = justNumber 1
+numbersOf Version = justNumber 2
 numbersOf (Count k v) = record { number = 3; which = countNumber k; value = v }
-numbersOf Empty = only 4
-numbersOf TooLong = only 5
-numbersOf NoRoom = only 6
+numbersOf Empty = justNumber 4
+numbersOf TooLong = justNumber 5
+numbersOf NoRoom = justNumber 6
 
 -- ---- 0 or absent
 

@@ -6,7 +6,7 @@ use mathlib.Core.Path.{_≡_, refl}
 use Rattle.format.specs.Text.{pick}
 use Rattle.format.specs.Verdict as Ends
 use Rattle.format.specs.Verdict.{Verdict, whole, badVersion, badCount, verdict}
-use Rattle.model.specs.Answers.{only, numbersOf, noRoomAnswer}
+use Rattle.model.specs.Answers.{justNumber, numbersOf, noRoomAnswer}
 use Rattle.score.specs.Score.{scored}
 use Rattle.score.specs.Reading.{Tables, Result, Score, needed, enough, fileAnswer, filled, refused, resultOf, reading}
 use Rattle.theorems.specs.Promise.{Promise, verdictNumbers}
@@ -15,7 +15,7 @@ module _ (t : Tables) where
   numbers-so : (v : Verdict Score) → numbersOf (resultOf t v .answer .outcome) ≡ verdictNumbers t v
   numbers-so (whole x n) = go (enough (needed x) t)
     where
-      go : (room : Bool) → numbersOf (pick room (record { answer = fileAnswer x n; tables = filled t x }) (refused (noRoomAnswer (needed x)) t) .answer .outcome) ≡ only (pick room 0 6)
+      go : (room : Bool) → numbersOf (pick room (record { answer = fileAnswer x n; tables = filled t x }) (refused (noRoomAnswer (needed x)) t) .answer .outcome) ≡ justNumber (pick room 0 6)
       go true = refl
       go false = refl
   numbers-so Ends.truncated = refl

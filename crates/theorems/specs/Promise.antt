@@ -16,18 +16,18 @@ use Rattle.format.specs.Fields.{countNumber}
 use Rattle.format.specs.Verdict as Ends
 use Rattle.format.specs.Verdict.{LIMIT, Verdict, whole, badVersion, badCount, upTo, verdict}
 use Rattle.model.specs.declared.Outcome.the-variants as O
-use Rattle.model.specs.Answers.{Numbers, only, numbersOf, refusal, noRoomAnswer}
+use Rattle.model.specs.Answers.{Numbers, justNumber, numbersOf, refusal, noRoomAnswer}
 use Rattle.score.specs.Score.{scored}
 use Rattle.score.specs.Reading.{Tables, Result, Score, needed, enough, filled, fileAnswer, refused, reading}
 
 -- document 01, "Seven outcomes": the numbers of what reading a file into the tables t came to
 abbrev pub verdictNumbers : Tables → Verdict Score → Numbers
-verdictNumbers t (whole x used) = only (pick (enough (needed x) t) 0 6)
-verdictNumbers t Ends.truncated = only 1
-verdictNumbers t badVersion = only 2
+verdictNumbers t (whole x used) = justNumber (pick (enough (needed x) t) 0 6)
+verdictNumbers t Ends.truncated = justNumber 1
+verdictNumbers t badVersion = justNumber 2
 verdictNumbers t (badCount which value) = record { number = 3; which = countNumber which; value = signed 2147483648 value }
-verdictNumbers t Ends.empty = only 4
-verdictNumbers t Ends.tooLong = only 5
+verdictNumbers t Ends.empty = justNumber 4
+verdictNumbers t Ends.tooLong = justNumber 5
 
 -- r, the answer and the six tables after a call, is what reading the file d into the tables t comes to, and its outcome has document 01's
 -- numbers
