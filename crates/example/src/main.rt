@@ -16,7 +16,7 @@ fn tied_in(members: &[u32], span: Span) -> u32 {
     let mut tied: u32 = 0;
     let mut j: u32 = 0;
     while j < span.count {
-        let number = tables::low(span.first as usize + j as usize) as usize;
+        let number = span.first as usize + j as usize;
         let MemberAt::ThisMember(member) = entries::members::member_at(members, number) else {
             return tied;
         };

@@ -45,19 +45,13 @@ pub extern "C" fn fungusleigh_read(
     texts: &mut [u32],
     said: &mut [u32],
 )
-    ensures { λ _. ⌜ (reader.tables (now (bars .exit)) (now (tracks .exit)) (now (rows .exit)) (now (members .exit))
-        (now (points .exit)) (now (texts .exit))
-        ≡ reading (now («data» .entry))
-        (reader.tables (now (bars .entry)) (now (tracks .entry)) (now (rows .entry)) (now (members .entry))
-        (now (points .entry)) (now (texts .entry)))
-        .tables)
-        × (now (said .exit)
-        ≡ sets (now (said .entry)) 0
-        (saidWords
-        (reading (now («data» .entry))
-        (reader.tables (now (bars .entry)) (now (tracks .entry)) (now (rows .entry))
-        (now (members .entry)) (now (points .entry)) (now (texts .entry)))
-        .answer))) ⌝ }
+    ensures { λ _.
+        let before = reader.tables (now (bars .entry)) (now (tracks .entry)) (now (rows .entry)) (now (members .entry))
+        (now (points .entry)) (now (texts .entry)) in
+        let after = reader.tables (now (bars .exit)) (now (tracks .exit)) (now (rows .exit)) (now (members .exit))
+        (now (points .exit)) (now (texts .exit)) in
+        let result = reading (now («data» .entry)) before in
+        ⌜ (after ≡ result .tables) × (now (said .exit) ≡ sets (now (said .entry)) 0 (saidWords (result .answer))) ⌝ }
 {
     let answer = reader::read(data, bars, tracks, rows, members, points, texts);
     let words = said_words(answer);

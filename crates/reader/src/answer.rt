@@ -89,10 +89,10 @@ pub fn has_room(
     points: &[u32],
     texts: &[u32],
 ) -> bool
-    ensures { λ r. ⌜ r
-        ≡ reading.enough rooms
-        (tables (now (bars .entry)) (now (tracks .entry)) (now (rows .entry)) (now (members .entry))
-        (now (points .entry)) (now (texts .entry))) ⌝ }
+    ensures { λ r.
+        let before = tables (now (bars .entry)) (now (tracks .entry)) (now (rows .entry)) (now (members .entry))
+        (now (points .entry)) (now (texts .entry)) in
+        ⌜ r ≡ reading.enough rooms before ⌝ }
 {
     (rooms.bars as usize <= entries::bars::bar_room(bars))
         & (rooms.tracks as usize <= entries::tracks::track_room(tracks))

@@ -60,12 +60,12 @@ fn fill(
     points: &mut [u32],
     texts: &mut [u32],
 ) -> Answer
-    ensures { λ r. ⌜ Fills (now (s .entry))
-        (tables (now (bars .entry)) (now (tracks .entry)) (now (rows .entry)) (now (members .entry))
-        (now (points .entry)) (now (texts .entry)))
-        (tables (now (bars .exit)) (now (tracks .exit)) (now (rows .exit)) (now (members .exit))
-        (now (points .exit)) (now (texts .exit)))
-        r ⌝ }
+    ensures { λ r.
+        let before = tables (now (bars .entry)) (now (tracks .entry)) (now (rows .entry)) (now (members .entry))
+        (now (points .entry)) (now (texts .entry)) in
+        let after = tables (now (bars .exit)) (now (tracks .exit)) (now (rows .exit)) (now (members .exit))
+        (now (points .exit)) (now (texts .exit)) in
+        ⌜ Fills (now (s .entry)) before after r ⌝ }
 {
     let mut parts = [0u32; OWN];
     let passed = pass::pass(
@@ -96,11 +96,12 @@ pub fn read(
     points: &mut [u32],
     texts: &mut [u32],
 ) -> Answer
-    ensures { λ r. ⌜ Promise (now («data» .entry))
-        (tables (now (bars .entry)) (now (tracks .entry)) (now (rows .entry)) (now (members .entry))
-        (now (points .entry)) (now (texts .entry)))
-        (result r (now (bars .exit)) (now (tracks .exit)) (now (rows .exit)) (now (members .exit))
-        (now (points .exit)) (now (texts .exit))) ⌝ }
+    ensures { λ r.
+        let before = tables (now (bars .entry)) (now (tracks .entry)) (now (rows .entry)) (now (members .entry))
+        (now (points .entry)) (now (texts .entry)) in
+        let after = result r (now (bars .exit)) (now (tracks .exit)) (now (rows .exit)) (now (members .exit))
+        (now (points .exit)) (now (texts .exit)) in
+        ⌜ Promise (now («data» .entry)) before after ⌝ }
 {
     let s = up_to(data, LIMIT);
     let first = first_pass(s);

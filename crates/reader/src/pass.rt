@@ -61,12 +61,12 @@ pub fn pass(
     texts: &mut [u32],
     parts: &mut [u32],
 ) -> Passed
-    ensures { λ r. ⌜ Passes counting (now (s .entry))
-        (lentOf (now (bars .entry)) (now (tracks .entry)) (now (rows .entry)) (now (members .entry))
-        (now (points .entry)) (now (texts .entry)) (now (parts .entry)))
-        (lentOf (now (bars .exit)) (now (tracks .exit)) (now (rows .exit)) (now (members .exit))
-        (now (points .exit)) (now (texts .exit)) (now (parts .exit)))
-        (r .song) (r .tally) (r .next) ⌝ }
+    ensures { λ r.
+        let before = lentOf (now (bars .entry)) (now (tracks .entry)) (now (rows .entry)) (now (members .entry))
+        (now (points .entry)) (now (texts .entry)) (now (parts .entry)) in
+        let after = lentOf (now (bars .exit)) (now (tracks .exit)) (now (rows .exit)) (now (members .exit))
+        (now (points .exit)) (now (texts .exit)) (now (parts .exit)) in
+        ⌜ Passes counting (now (s .entry)) before after (r .song) (r .tally) (r .next) ⌝ }
 {
     let mut programs = [[0u8; 16]; 4];
     let song = front::song_at(s, Place::At(0), &mut programs);

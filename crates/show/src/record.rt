@@ -1,5 +1,5 @@
-// The oracle's list: after its first four bytes and the number of records, each record is 37 words and an input. tests/README.md
-// has the words.
+// The oracle's list: after its first four bytes and the number of records, each record is 37 words and an input. After them come the
+// records whose inputs are held in short. tests/README.md has the words.
 use format::Place;
 use model::Answer;
 use model::answers;

@@ -74,14 +74,13 @@ fn one_beat(
     notes: &mut Notes,
     chord: &mut Chord,
 ) -> Step
-    ensures { λ r. ⌜ Reaches
-        (beatStep false (now (s .entry)) v (place .bar) (place .track) (place .voice)
-        (walkOf (now (bars .entry)) (now (rows .entry)) (now (members .entry)) (now (points .entry))
-        (now (texts .entry)) (now (parts .entry)) (tallyOf progress (now (lost .entry)))))
-        (now (s .entry)) from
-        (walkOf (now (bars .exit)) (now (rows .exit)) (now (members .exit)) (now (points .exit))
-        (now (texts .exit)) (now (parts .exit)) (tallyOf (r .progress) (now (lost .exit))))
-        (r .next) ⌝ }
+    ensures { λ r.
+        let before = walkOf (now (bars .entry)) (now (rows .entry)) (now (members .entry))
+        (now (points .entry)) (now (texts .entry)) (now (parts .entry)) (tallyOf progress (now (lost .entry))) in
+        let after = walkOf (now (bars .exit)) (now (rows .exit)) (now (members .exit))
+        (now (points .exit)) (now (texts .exit)) (now (parts .exit)) (tallyOf (r .progress) (now (lost .exit))) in
+        ⌜ Reaches (beatStep false (now (s .entry)) v (place .bar) (place .track) (place .voice) before)
+        (now (s .entry)) from after (r .next) ⌝ }
 {
     let next = beat::read_beat(s, from, v, b, notes);
     let Place::At(_) = next else {
@@ -124,14 +123,13 @@ fn beats(
     notes: &mut Notes,
     chord: &mut Chord,
 ) -> Step
-    ensures { λ r. ⌜ Reaches
-        (turns n 0 (file.oneBeat (entering false (now (s .entry))) v (place .bar) (place .track) (place .voice))
-        (walkOf (now (bars .entry)) (now (rows .entry)) (now (members .entry)) (now (points .entry))
-        (now (texts .entry)) (now (parts .entry)) (tallyOf progress (now (lost .entry)))))
-        (now (s .entry)) from
-        (walkOf (now (bars .exit)) (now (rows .exit)) (now (members .exit)) (now (points .exit))
-        (now (texts .exit)) (now (parts .exit)) (tallyOf (r .progress) (now (lost .exit))))
-        (r .next) ⌝ }
+    ensures { λ r.
+        let before = walkOf (now (bars .entry)) (now (rows .entry)) (now (members .entry))
+        (now (points .entry)) (now (texts .entry)) (now (parts .entry)) (tallyOf progress (now (lost .entry))) in
+        let after = walkOf (now (bars .exit)) (now (rows .exit)) (now (members .exit))
+        (now (points .exit)) (now (texts .exit)) (now (parts .exit)) (tallyOf (r .progress) (now (lost .exit))) in
+        ⌜ Reaches (turns n 0 (file.oneBeat (entering false (now (s .entry))) v (place .bar) (place .track) (place .voice)) before)
+        (now (s .entry)) from after (r .next) ⌝ }
 {
     let mut progress = progress;
     let mut at = from;
@@ -248,14 +246,13 @@ fn voice(
     notes: &mut Notes,
     chord: &mut Chord,
 ) -> Step
-    ensures { λ r. ⌜ Reaches
-        (file.voice (entering counting (now (s .entry))) v (place .bar) (place .track) (place .voice)
-        (walkOf (now (bars .entry)) (now (rows .entry)) (now (members .entry)) (now (points .entry))
-        (now (texts .entry)) (now (parts .entry)) (tallyOf progress (now (lost .entry)))))
-        (now (s .entry)) from
-        (walkOf (now (bars .exit)) (now (rows .exit)) (now (members .exit)) (now (points .exit))
-        (now (texts .exit)) (now (parts .exit)) (tallyOf (r .progress) (now (lost .exit))))
-        (r .next) ⌝ }
+    ensures { λ r.
+        let before = walkOf (now (bars .entry)) (now (rows .entry)) (now (members .entry))
+        (now (points .entry)) (now (texts .entry)) (now (parts .entry)) (tallyOf progress (now (lost .entry))) in
+        let after = walkOf (now (bars .exit)) (now (rows .exit)) (now (members .exit))
+        (now (points .exit)) (now (texts .exit)) (now (parts .exit)) (tallyOf (r .progress) (now (lost .exit))) in
+        ⌜ Reaches (file.voice (entering counting (now (s .entry))) v (place .bar) (place .track) (place .voice) before)
+        (now (s .entry)) from after (r .next) ⌝ }
 {
     let count = bin::count_at(s, from, Counted::Beats);
     let at = count.next;
@@ -319,14 +316,13 @@ fn voices(
     notes: &mut Notes,
     chord: &mut Chord,
 ) -> Step
-    ensures { λ r. ⌜ Reaches
-        (turns n 0 (file.voice (entering counting (now (s .entry))) v bar track)
-        (walkOf (now (bars .entry)) (now (rows .entry)) (now (members .entry)) (now (points .entry))
-        (now (texts .entry)) (now (parts .entry)) (tallyOf progress (now (lost .entry)))))
-        (now (s .entry)) from
-        (walkOf (now (bars .exit)) (now (rows .exit)) (now (members .exit)) (now (points .exit))
-        (now (texts .exit)) (now (parts .exit)) (tallyOf (r .progress) (now (lost .exit))))
-        (r .next) ⌝ }
+    ensures { λ r.
+        let before = walkOf (now (bars .entry)) (now (rows .entry)) (now (members .entry))
+        (now (points .entry)) (now (texts .entry)) (now (parts .entry)) (tallyOf progress (now (lost .entry))) in
+        let after = walkOf (now (bars .exit)) (now (rows .exit)) (now (members .exit))
+        (now (points .exit)) (now (texts .exit)) (now (parts .exit)) (tallyOf (r .progress) (now (lost .exit))) in
+        ⌜ Reaches (turns n 0 (file.voice (entering counting (now (s .entry))) v bar track) before)
+        (now (s .entry)) from after (r .next) ⌝ }
 {
     let mut progress = progress;
     let mut at = from;
@@ -383,14 +379,13 @@ fn bar_track(
     notes: &mut Notes,
     chord: &mut Chord,
 ) -> Step
-    ensures { λ r. ⌜ Reaches
-        (file.barTrack (entering counting (now (s .entry))) v bar track
-        (walkOf (now (bars .entry)) (now (rows .entry)) (now (members .entry)) (now (points .entry))
-        (now (texts .entry)) (now (parts .entry)) (tallyOf progress (now (lost .entry)))))
-        (now (s .entry)) from
-        (walkOf (now (bars .exit)) (now (rows .exit)) (now (members .exit)) (now (points .exit))
-        (now (texts .exit)) (now (parts .exit)) (tallyOf (r .progress) (now (lost .exit))))
-        (r .next) ⌝ }
+    ensures { λ r.
+        let before = walkOf (now (bars .entry)) (now (rows .entry)) (now (members .entry))
+        (now (points .entry)) (now (texts .entry)) (now (parts .entry)) (tallyOf progress (now (lost .entry))) in
+        let after = walkOf (now (bars .exit)) (now (rows .exit)) (now (members .exit))
+        (now (points .exit)) (now (texts .exit)) (now (parts .exit)) (tallyOf (r .progress) (now (lost .exit))) in
+        ⌜ Reaches (file.barTrack (entering counting (now (s .entry))) v bar track before)
+        (now (s .entry)) from after (r .next) ⌝ }
 {
     let count = voices_at(s, from, v);
     let at = count.next;
@@ -435,14 +430,13 @@ fn bar_tracks(
     notes: &mut Notes,
     chord: &mut Chord,
 ) -> Step
-    ensures { λ r. ⌜ Reaches
-        (turns tracks 0 (file.barTrack (entering counting (now (s .entry))) v bar)
-        (walkOf (now (bars .entry)) (now (rows .entry)) (now (members .entry)) (now (points .entry))
-        (now (texts .entry)) (now (parts .entry)) (tallyOf progress (now (lost .entry)))))
-        (now (s .entry)) from
-        (walkOf (now (bars .exit)) (now (rows .exit)) (now (members .exit)) (now (points .exit))
-        (now (texts .exit)) (now (parts .exit)) (tallyOf (r .progress) (now (lost .exit))))
-        (r .next) ⌝ }
+    ensures { λ r.
+        let before = walkOf (now (bars .entry)) (now (rows .entry)) (now (members .entry))
+        (now (points .entry)) (now (texts .entry)) (now (parts .entry)) (tallyOf progress (now (lost .entry))) in
+        let after = walkOf (now (bars .exit)) (now (rows .exit)) (now (members .exit))
+        (now (points .exit)) (now (texts .exit)) (now (parts .exit)) (tallyOf (r .progress) (now (lost .exit))) in
+        ⌜ Reaches (turns tracks 0 (file.barTrack (entering counting (now (s .entry))) v bar) before)
+        (now (s .entry)) from after (r .next) ⌝ }
 {
     let mut progress = progress;
     let mut at = from;
@@ -496,14 +490,13 @@ fn one_bar(
     notes: &mut Notes,
     chord: &mut Chord,
 ) -> Step
-    ensures { λ r. ⌜ Reaches
-        (file.bar (entering counting (now (s .entry))) v tracks bar
-        (walkOf (now (bars .entry)) (now (rows .entry)) (now (members .entry)) (now (points .entry))
-        (now (texts .entry)) (now (parts .entry)) (tallyOf progress (now (lost .entry)))))
-        (now (s .entry)) from
-        (walkOf (now (bars .exit)) (now (rows .exit)) (now (members .exit)) (now (points .exit))
-        (now (texts .exit)) (now (parts .exit)) (tallyOf (r .progress) (now (lost .exit))))
-        (r .next) ⌝ }
+    ensures { λ r.
+        let before = walkOf (now (bars .entry)) (now (rows .entry)) (now (members .entry))
+        (now (points .entry)) (now (texts .entry)) (now (parts .entry)) (tallyOf progress (now (lost .entry))) in
+        let after = walkOf (now (bars .exit)) (now (rows .exit)) (now (members .exit))
+        (now (points .exit)) (now (texts .exit)) (now (parts .exit)) (tallyOf (r .progress) (now (lost .exit))) in
+        ⌜ Reaches (file.bar (entering counting (now (s .entry))) v tracks bar before)
+        (now (s .entry)) from after (r .next) ⌝ }
 {
     let key = into_bars::key_at(bars, bar as usize);
     let progress = enter::enter_bar(progress, key);
@@ -547,14 +540,13 @@ fn every_bar(
     notes: &mut Notes,
     chord: &mut Chord,
 ) -> Step
-    ensures { λ r. ⌜ Reaches
-        (turns n 0 (file.bar (entering counting (now (s .entry))) v tracks)
-        (walkOf (now (bars .entry)) (now (rows .entry)) (now (members .entry)) (now (points .entry))
-        (now (texts .entry)) (now (parts .entry)) (tallyOf progress (now (lost .entry)))))
-        (now (s .entry)) from
-        (walkOf (now (bars .exit)) (now (rows .exit)) (now (members .exit)) (now (points .exit))
-        (now (texts .exit)) (now (parts .exit)) (tallyOf (r .progress) (now (lost .exit))))
-        (r .next) ⌝ }
+    ensures { λ r.
+        let before = walkOf (now (bars .entry)) (now (rows .entry)) (now (members .entry))
+        (now (points .entry)) (now (texts .entry)) (now (parts .entry)) (tallyOf progress (now (lost .entry))) in
+        let after = walkOf (now (bars .exit)) (now (rows .exit)) (now (members .exit))
+        (now (points .exit)) (now (texts .exit)) (now (parts .exit)) (tallyOf (r .progress) (now (lost .exit))) in
+        ⌜ Reaches (turns n 0 (file.bar (entering counting (now (s .entry))) v tracks) before)
+        (now (s .entry)) from after (r .next) ⌝ }
 {
     let mut progress = progress;
     let mut at = from;
@@ -605,14 +597,13 @@ pub fn all_bars(
     texts: &mut [u32],
     parts: &mut [u32],
 ) -> Walked
-    ensures { λ r. ⌜ Reaches
-        (turns n 0 (file.bar (entering counting (now (s .entry))) v tracks)
-        (walkOf (now (bars .entry)) (now (rows .entry)) (now (members .entry)) (now (points .entry))
-        (now (texts .entry)) (now (parts .entry)) tally))
-        (now (s .entry)) from
-        (walkOf (now (bars .exit)) (now (rows .exit)) (now (members .exit)) (now (points .exit))
-        (now (texts .exit)) (now (parts .exit)) (r .tally))
-        (r .next) ⌝ }
+    ensures { λ r.
+        let before = walkOf (now (bars .entry)) (now (rows .entry)) (now (members .entry))
+        (now (points .entry)) (now (texts .entry)) (now (parts .entry)) tally in
+        let after = walkOf (now (bars .exit)) (now (rows .exit)) (now (members .exit))
+        (now (points .exit)) (now (texts .exit)) (now (parts .exit)) (r .tally) in
+        ⌜ Reaches (turns n 0 (file.bar (entering counting (now (s .entry))) v tracks) before)
+        (now (s .entry)) from after (r .next) ⌝ }
 {
     let mut lost = tally.losses;
     let mut b = [0usize; 19];
