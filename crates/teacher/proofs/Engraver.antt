@@ -22,7 +22,7 @@ use Rattle.refine.proofs.All.{All, all-weaker}
 use Rattle.told.specs.Told.{TrackTold, BeatTold, Event, enters, plays}
 use Rattle.told.proofs.Made.{made-of-told}
 use Rattle.teacher.specs.Teacher.{orOwn, boardIn, lastReadIn, Seen, SeenRow, lastShown}
-use Rattle.teacher.specs.Teacher.{Kept, AllKept, SameFret, TiesShown}
+use Rattle.teacher.specs.Teacher.{KeptBeat, AllKept, SameFret, TiesShown}
 use Rattle.teacher.proofs.Walk.{seenNote, seenGrace, gracesSeen, notesOf, placeOf, gracesRead, chordRead}
 use Rattle.teacher.proofs.Walk.{rowsRead, pageOf, page-more}
 use Rattle.teacher.proofs.Notes.{tie-takes, NoteIn, notes-in}
@@ -58,7 +58,7 @@ own-or-last NoFret own = tt
 own-or-last (Fret f) own = refl
 
 -- ---- the rows of one beat, where those before show what was read
-module _ (tracks : List TrackTold) (b : BeatTold) (es : List Event) (before : List SeenRow) (kept : All Kept es)
+module _ (tracks : List TrackTold) (b : BeatTold) (es : List Event) (before : List SeenRow) (kept : All KeptBeat es)
     (is : before ≡ reverse (pageOf tracks es)) where
   abbrev board : Fretboard
   board = boardIn tracks (b .track)
@@ -108,7 +108,7 @@ module _ (tracks : List TrackTold) (b : BeatTold) (es : List Event) (before : Li
         tt,
       )
 
-page-shown : (tracks : List TrackTold) (es : List Event) → All Kept es → Each RowShown [] (pageOf tracks es)
+page-shown : (tracks : List TrackTold) (es : List Event) → All KeptBeat es → Each RowShown [] (pageOf tracks es)
 page-shown tracks [] q = tt
 page-shown tracks (enters bar ∷ es) q = page-shown tracks es (q .1)
 page-shown tracks (plays b ∷ es) q =
@@ -125,7 +125,7 @@ ties-shown s bytes x n e kept =
     let m = made-of-told (keeping lists none) s bytes x n e in
     let tracks : List TrackTold = m .file .bars .staves .tracks in
     let events : List Event = reverse (m .file .bars .events) in
-    let all : All Kept events = all-back Kept (m .file .bars .events) [] (kept (m .file) (m .tells)) tt in
+    let all : All KeptBeat events = all-back KeptBeat (m .file .bars .events) [] (kept (m .file) (m .tells)) tt in
     record {
       ties = λ k j d h i.
           member-has TieShown tracks events x (file-walked s x n m) (page-shown tracks events all) k d h j i;

@@ -18,7 +18,7 @@ use Rattle.score.specs.Sounding.{sounds}
 use Rattle.score.specs.Members.{Graced, graces}
 use Rattle.refine.proofs.All.{All}
 use Rattle.told.specs.Told.{TrackTold, BeatTold, Event, enters, plays}
-use Rattle.teacher.specs.Teacher.{ofVoice, boardIn, lastReadIn, Seen, SeenRow, shownAt, shownOn, orEarlier, lastShown, Kept}
+use Rattle.teacher.specs.Teacher.{ofVoice, boardIn, lastReadIn, Seen, SeenRow, shownAt, shownOn, orEarlier, lastShown, KeptBeat}
 use Rattle.teacher.proofs.Walk.{seenNote, gracesSeen, notesOf, placeOf, gracesRead, chordRead, rowsRead}
 use Rattle.teacher.proofs.Walk.{pageOf, rows-back, page-back}
 use Rattle.teacher.proofs.Notes.{NoteIn, notes-in, fretIn, Somewhere, IsString, string-somewhere}
@@ -136,7 +136,7 @@ module _ (tracks : List TrackTold) (track voice i : ℕ) (tablature : boardIn tr
         rw (rows-back tracks b es before, passed) (chord-read (ofVoice track voice b) refl)
 
   -- after all the events
-  pub shown-is-read : (es : List Event) → All Kept es
+  pub shown-is-read : (es : List Event) → All KeptBeat es
       → lastShown track voice string (reverse (pageOf tracks es)) ≡ lastReadIn tracks track voice i es
   shown-is-read [] q = refl
   shown-is-read (enters bar ∷ es) q = shown-is-read es (q .1)

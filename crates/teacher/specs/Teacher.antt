@@ -234,13 +234,13 @@ lastShown track voice string (r ∷ before) =
     (lastShown track voice string before)
 
 -- a beat is kept
-abbrev pub Kept : Event → Type 0
-Kept (enters bar) = Unit {0}
-Kept (plays b) = b .beat .head .kept ≡ true
+abbrev pub KeptBeat : Event → Type 0
+KeptBeat (enters bar) = Unit {0}
+KeptBeat (plays b) = b .beat .head .kept ≡ true
 
 -- every beat of the file is kept
 abbrev pub AllKept : (s : List ℕ) (n : ℕ) → Type 0
-AllKept s n = (file : Told) → run told s 0 ≡ ok file n → All Kept (file .bars .events)
+AllKept s n = (file : Told) → run told s 0 ≡ ok file n → All KeptBeat (file .bars .events)
 
 -- the fret is the one last shown, where one was
 abbrev pub SameFret : (fret : ℕ) → LastFret → Type 0
