@@ -1,7 +1,6 @@
 // The table of texts.
 use crate::TextAt;
 use model::Text;
-use model::kinds;
 ghost use mathlib.Core.Path.{_≡_};
 ghost use Prim.Native.Nat.{_*_};
 ghost use lib.Seq.{sets};

@@ -5,7 +5,7 @@ use crate::MarkAt;
 use crate::kinds;
 ghost use mathlib.Core.Path.{_≡_};
 ghost use Prim.Native.Nat.{_-_, _/_, _%_};
-ghost use Rattle.model.specs.Kinds.{articulationWord, articulationOf};
+ghost use Rattle.model.specs.Kinds.{articulationWord};
 ghost use Rattle.model.specs.Marks.{addedIn, byteCounted, noMarks, hasDigit, withDigit, addMark, shifted, markAt};
 
 // Articulations while they are added. Two whole words: a struct with padding is copied in pieces (docs/PROVING.md, Speed).

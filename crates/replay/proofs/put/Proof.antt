@@ -1,4 +1,4 @@
--- The loop ends with the last byte, or where the room does. Assumes nothing.
+-- The loop ends with the last byte, or where the room does.
 use mathlib.Core.Path.{_≡_}
 use Prim.Native.Nat.{_≤_, _-_}
 use lib.ListN.{length}

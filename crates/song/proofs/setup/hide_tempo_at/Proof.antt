@@ -1,4 +1,4 @@
--- The field, where it stands. Assumes nothing.
+-- The field, where it stands.
 use borrow.Author.Needs.{needs}
 use Rattle.format.proofs.Rules.{reading}
 use Rattle.song.specs.Setup.{hideTempo}
