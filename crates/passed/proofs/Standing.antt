@@ -1,5 +1,4 @@
 -- The fields of document 01's list stand in every file that is read, so PassedOver.antt speaks of bytes that are there.
---
 use Prim.Native.Nat.{ℕ, _≤_, _<_}
 use mathlib.Core.Bool.{true}
 use mathlib.Core.Path.{_≡_}

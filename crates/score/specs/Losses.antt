@@ -1,5 +1,4 @@
 -- Losses: each report adds one. Those of reading a beat count whether it is kept or not, those of building a row only where it is.
---
 use Prim.Native.Nat.{ℕ, zero, suc, _+_}
 use mathlib.Core.List.{List, [], _∷_, _++_}
 use mathlib.Core.Bool.{Bool, true, false, not, _&&_}

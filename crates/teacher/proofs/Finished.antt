@@ -1,5 +1,4 @@
 -- What holds of every member of the page that the events make holds of the members in the finished tables.
---
 use Prim.Native.Nat.{ℕ, _+_, _≤_, _<_}
 use native.Mathlib.Omega.{arith}
 use mathlib.Core.Path.{_≡_, _∙_}

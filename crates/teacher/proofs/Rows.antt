@@ -1,5 +1,4 @@
 -- What is seen of the rows that are kept: each new row stands after those before it, and what is seen of those stays.
---
 use Prim.Native.Nat.{ℕ, zero, suc, _+_, _≤_}
 use native.Mathlib.Omega.{arith}
 use mathlib.Core.Path.{_≡_, refl, sym, _∙_}

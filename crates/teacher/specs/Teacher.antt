@@ -1,5 +1,4 @@
 -- Which fret a member that ends a tie must have, by what was read, and what an engraver sees of it on the page.
---
 use Prim.Native.Nat.{ℕ, _+_, _<_}
 use mathlib.Core.Path.{_≡_}
 use mathlib.Core.Bool.{Bool, true, false, _&&_}
