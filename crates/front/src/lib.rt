@@ -6,6 +6,7 @@ use model::Tempo;
 use model::Time;
 use score::Before;
 use song::info::Info;
+ghost use Prim.Native.Nat.{_≤_};
 ghost use Rattle.format.specs.Place.{Reaches};
 ghost use Rattle.format.specs.Prog.{turns};
 ghost use Rattle.score.specs.File as file;
@@ -25,7 +26,8 @@ pub struct SongRead {
 }
 
 pub fn song_at(s: &[u8], from: Place, programs: &mut [[u8; 16]; 4]) -> SongRead
-    ensures { λ r. ⌜ Reaches file.opening (now (s .entry)) from (songOf r (now (programs .exit))) (r .next) ⌝ }
+    ensures most { λ r. ⌜ r .counts .tracks ≤ 100 ⌝ }
+    ensures reads { λ r. ⌜ Reaches file.opening (now (s .entry)) from (songOf r (now (programs .exit))) (r .next) ⌝ }
 {
     let version = song::version::version_at(s, from);
     let v = version.value;

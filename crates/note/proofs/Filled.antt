@@ -43,6 +43,22 @@ pad-skip-to n e = rw (← e) (pad.pad-skip n)
 pub pad-byte-to : {s : List ℕ} {at next b : ℕ} → b ≡ getD s at 0 → at + 1 ≡ next → Padded u8 s at b next
 pad-byte-to h e = rw (← e) (pad.pad-byte h)
 
+-- ---- dynamic
+module _ {s w w₁ : List ℕ} {at b : ℕ} (flags o : ℕ) where
+  pub dynamic-none : bitAnd flags 0x10 ≡ 0 → Stored (o + 2) b w w₁ → Fills (dynamic flags) 1 s at (o + 2) w w₁ (dynamicIn flags w₁ o) at
+  unfolding dynamic dynamicIn
+  dynamic-none h st =
+      record { reads = rw (has-clear flags 0x10 h) (pad.pad-clear _ _ _ _ h pad.here); below = st .below; near = omega arith }
+
+  pub dynamic-some : (bitAnd flags 0x10 ≡ 0 → ⊥) → b ≡ getD s at 0 → Stored (o + 2) b w w₁ → Fills (dynamic flags) 1 s at (o + 2) w w₁ (dynamicIn flags w₁ o) (at + 1)
+  unfolding dynamic dynamicIn
+  dynamic-some h e st =
+      record {
+        reads = rw (has-set flags 0x10 h, st .is) (pad.pad-set _ _ _ _ h (pad.on _ (pad.pad-byte e) pad.here));
+        below = st .below;
+        near = omega arith;
+      }
+
 -- ---- hands
 pub hands-none : {s w : List ℕ} {at k : ℕ} (flags o : ℕ) → bitAnd flags 0x80 ≡ 0 → Fills (hands flags) 2 s at k w w (handsIn flags w o) at
 unfolding hands noHands handsIn
@@ -243,7 +259,7 @@ pub dynamic-read : {s : List ℕ} {at next : ℕ} (w : List ℕ) (flags o : ℕ)
 unfolding optional dynamic dynamicIn
 dynamic-read w flags o h = pad.pad-made flags 0x10 (λ b. Given b) Absent h
 
-pub by-read : {s w w₁ w₂ w₃ w₄ : List ℕ} {at a₁ a₂ a₃ a₄ : ℕ} {to : Place} (v flags o : ℕ) → Fills (optional (has flags 0x20) u8 0) 1 s at (o + 1) w w₁ (byteIn w₁ (o + 1)) a₁ → Passed (ltb v 500 && has flags 0x01) 2 a₁ a₂ → Fills (optional (has flags 0x10) u8 0) 1 s a₂ (o + 2) w₁ w₂ (byteIn w₂ (o + 2)) a₃ → Fills (optional (has flags 0x20) u8 0) 1 s a₃ (o + 3) w₂ w₃ (byteIn w₃ (o + 3)) a₄ → EndTo v flags s a₄ o w₃ w₄ to → FillsTo (noteBy v flags) s at (o + 1) w w₄ (noteBytes s v flags w₄ o) to
+pub by-read : {s w w₁ w₂ w₃ w₄ : List ℕ} {at a₁ a₂ a₃ a₄ : ℕ} {to : Place} (v flags o : ℕ) → Fills (optional (has flags 0x20) u8 0) 1 s at (o + 1) w w₁ (byteIn w₁ (o + 1)) a₁ → Passed (ltb v 500 && has flags 0x01) 2 a₁ a₂ → Fills (dynamic flags) 1 s a₂ (o + 2) w₁ w₂ (dynamicIn flags w₂ o) a₃ → Fills (optional (has flags 0x20) u8 0) 1 s a₃ (o + 3) w₂ w₃ (byteIn w₃ (o + 3)) a₄ → EndTo v flags s a₄ o w₃ w₄ to → FillsTo (noteBy v flags) s at (o + 1) w w₄ (noteBytes s v flags w₄ o) to
 unfolding noteBy frettedByte ownDuration
 by-read {s} {w} {w₁} {w₂} {w₃} {w₄} v flags o k p d f e =
     let k₂ : Kept (o + 3) w₂ w₄ = kept-on (omega arith) (omega arith) (f .below) (e .below) in
@@ -253,7 +269,7 @@ by-read {s} {w} {w₁} {w₂} {w₃} {w₄} v flags o k p d f e =
           rw (byte-kept (o + 1) (omega arith) k₁, dynamic-kept flags o (omega arith) k₂, byte-kept (o + 3) (omega arith) (e .below))
           (pad.and-on _ (k .reads)
           (pad.and-on _ (p .passes s)
-          (pad.and-on _ (dynamic-read w₂ flags o (d .reads))
+          (pad.and-on _ (d .reads)
           (pad.and-on _ (f .reads) (e .reads _ _ _)))));
       below = kept-on (omega arith) (omega arith) (k .below) k₁;
     }

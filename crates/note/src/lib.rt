@@ -48,6 +48,20 @@ pub struct NoteRead {
     pub effects: NoteEffects,
 }
 
+// The byte that stands there is stored whether it is a dynamic or not: a branch that is taken by chance costs more than a store.
+fn dynamic_at(s: &[u8], at: usize, flags: u8, w: &mut Notes, o: usize) -> usize
+    requires { ⌜ Near 1 at × (o ≤ 126) ⌝ }
+    ensures { λ r. ⌜
+        meaning.Fills (format.dynamic flags) 1 (now (s .entry)) at (o + meaning.DYNAMIC) (now (w .entry)) (now (w .exit))
+        (meaning.dynamicIn flags (now (w .exit)) o) r ⌝ }
+{
+    put(w, o + places::DYNAMIC, bin::ahead::byte(s, at));
+    if flags & 0x10 == 0 {
+        return at;
+    }
+    at + 1
+}
+
 fn hands_at(s: &[u8], at: usize, flags: u8, w: &mut Notes, o: usize) -> usize
     requires { ⌜ Near 2 at × (o ≤ 126) ⌝ }
     ensures { λ r. ⌜
@@ -90,7 +104,7 @@ fn note_by(s: &[u8], at: usize, v: u32, flags: u8, w: &mut Notes, o: usize) -> P
     let fretted = flags & 0x20 != 0;
     let at = put_if(s, at, fretted, w, o + places::KIND);
     let at = pass_if(at, (v < 500) & (flags & 0x01 != 0), 2);
-    let at = put_if(s, at, flags & 0x10 != 0, w, o + places::DYNAMIC);
+    let at = dynamic_at(s, at, flags, w, o);
     let at = put_if(s, at, fretted, w, o + places::FRET);
     note_end(s, at, v, flags, w, o)
 }

@@ -8,6 +8,8 @@ use score::Before;
 use score::KeptCounts;
 use score::Tally;
 ghost use mathlib.Core.Path.{_≡_};
+ghost use Prim.Native.Nat.{_≤_};
+ghost use lib.ListN.{length};
 ghost use Rattle.words.specs.Lent.{lentOf};
 ghost use Rattle.reader.specs.Passed.{Passes};
 ghost use Rattle.reader.specs.Started as started;
@@ -50,7 +52,8 @@ fn before_beats(losses: [u32; 17]) -> Tally
     }
 }
 
-pub fn pass(
+// The words of `parts` are those of a hundred tracks, and a file has no more.
+pub(crate) fn pass(
     s: &[u8],
     counting: bool,
     bars: &mut [u32],
@@ -61,6 +64,7 @@ pub fn pass(
     texts: &mut [u32],
     parts: &mut [u32],
 ) -> Passed
+    requires { ⌜ 4200 ≤ length (now parts) ⌝ }
     ensures { λ r.
         let before = lentOf (now (bars .entry)) (now (tracks .entry)) (now (rows .entry)) (now (members .entry))
         (now (points .entry)) (now (texts .entry)) (now (parts .entry)) in

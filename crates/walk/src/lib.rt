@@ -8,14 +8,22 @@ use format::Counted;
 use format::Place;
 use into_losses::Losses;
 use note::places::Notes;
+use score::Fretboard;
 use score::Tally;
+use words::voice::VoiceWords;
 ghost use Rattle.format.specs.Place.{Reaches};
 ghost use Rattle.format.specs.Prog.{turns};
 ghost use Rattle.score.specs.File as file;
 ghost use Rattle.words.specs.Meant.{walkOf};
 ghost use mathlib.Core.Path.{_≡_};
 ghost use mathlib.Core.Bool.{false};
+ghost use mathlib.Core.List.{List};
+ghost use Prim.Native.Nat.{ℕ, _+_, _*_, _<_, _≤_};
+ghost use lib.ListN.{length};
+ghost use Rattle.words.specs.Words.{partStride};
+ghost use Rattle.words.specs.Voices.{voiceIn};
 ghost use Rattle.enter.specs.Steps.{tallyOf};
+ghost use Rattle.enter.specs.Held as held;
 ghost use Rattle.walk.specs.Entering.{entering, beatStep, countStep, countSteps, Counts};
 
 // What is counted so far, and where reading goes on.
@@ -27,6 +35,13 @@ pub struct Walked {
 // The same while the losses are lent.
 struct Step {
     progress: Progress,
+    next: Place,
+}
+
+// The same after beats of a track, with its running dynamic.
+struct Entered {
+    progress: Progress,
+    running: u8,
     next: Place,
 }
 
@@ -57,36 +72,45 @@ fn tally_of(progress: Progress, losses: [u32; 17]) -> Tally
     }
 }
 
+// A beat, while what is remembered of its track is lent.
 fn one_beat(
     s: &[u8],
     from: Place,
     v: u32,
     place: model::RowPlace,
+    board: Fretboard,
+    running: u8,
     progress: Progress,
     bars: &mut [u32],
     rows: &mut [u32],
     members: &mut [u32],
     points: &mut [u32],
     texts: &mut [u32],
-    parts: &mut [u32],
+    memory: &mut VoiceWords,
     lost: &mut Losses,
     b: &mut Beat,
     notes: &mut Notes,
     chord: &mut Chord,
-) -> Step
-    ensures { λ r.
-        let before = walkOf (now (bars .entry)) (now (rows .entry)) (now (members .entry))
-        (now (points .entry)) (now (texts .entry)) (now (parts .entry)) (tallyOf progress (now (lost .entry))) in
-        let after = walkOf (now (bars .exit)) (now (rows .exit)) (now (members .exit))
-        (now (points .exit)) (now (texts .exit)) (now (parts .exit)) (tallyOf (r .progress) (now (lost .exit))) in
-        ⌜ Reaches (beatStep false (now (s .entry)) v (place .bar) (place .track) (place .voice) before)
-        (now (s .entry)) from after (r .next) ⌝ }
+) -> Entered
+    ensures { λ r. ⌜ ((parts : List ℕ)
+        → held.Lent (place .track) (place .voice) board (voiceIn (now (memory .entry))) running parts
+        → Reaches (beatStep false (now (s .entry)) v (place .bar) (place .track) (place .voice)
+        (walkOf (now (bars .entry)) (now (rows .entry)) (now (members .entry)) (now (points .entry)) (now (texts .entry))
+        parts (tallyOf progress (now (lost .entry)))))
+        (now (s .entry)) from
+        (walkOf (now (bars .exit)) (now (rows .exit)) (now (members .exit)) (now (points .exit)) (now (texts .exit))
+        (held.putBack (place .track) (place .voice) (voiceIn (now (memory .exit))) (r .running) parts)
+        (tallyOf (r .progress) (now (lost .exit)))) (r .next)) ⌝ }
 {
     let next = beat::read_beat(s, from, v, b, notes);
     let Place::At(_) = next else {
-        return Step { progress, next };
+        return Entered {
+            progress,
+            running,
+            next,
+        };
     };
-    let progress = enter::add_beat(
+    let added = enter::add_beat(
         s,
         v,
         place,
@@ -100,11 +124,95 @@ fn one_beat(
         members,
         points,
         texts,
-        parts,
+        board,
+        running,
+        memory,
     );
-    Step { progress, next }
+    let progress = added.progress;
+    Entered {
+        progress,
+        running: added.running,
+        next,
+    }
 }
 
+// Beats, at least one, of a track whose words are all there.
+fn held_beats(
+    s: &[u8],
+    from: Place,
+    v: u32,
+    n: u32,
+    place: model::RowPlace,
+    board: Fretboard,
+    running: u8,
+    progress: Progress,
+    bars: &mut [u32],
+    rows: &mut [u32],
+    members: &mut [u32],
+    points: &mut [u32],
+    texts: &mut [u32],
+    memory: &mut VoiceWords,
+    lost: &mut Losses,
+    b: &mut Beat,
+    notes: &mut Notes,
+    chord: &mut Chord,
+) -> Entered
+    ensures { λ r. ⌜ ((parts : List ℕ)
+        → 0 < n
+        → place .track * partStride + partStride ≤ length parts
+        → held.Lent (place .track) (place .voice) board (voiceIn (now (memory .entry))) running parts
+        → Reaches (turns n 0 (file.oneBeat (entering false (now (s .entry))) v (place .bar) (place .track) (place .voice))
+        (walkOf (now (bars .entry)) (now (rows .entry)) (now (members .entry)) (now (points .entry)) (now (texts .entry))
+        parts (tallyOf progress (now (lost .entry)))))
+        (now (s .entry)) from
+        (walkOf (now (bars .exit)) (now (rows .exit)) (now (members .exit)) (now (points .exit)) (now (texts .exit))
+        (held.putBack (place .track) (place .voice) (voiceIn (now (memory .exit))) (r .running) parts)
+        (tallyOf (r .progress) (now (lost .exit)))) (r .next)) ⌝ }
+{
+    let mut progress = progress;
+    let mut running = running;
+    let mut at = from;
+    let mut i = 0;
+    while i < n {
+        let walked = one_beat(
+            s,
+            at,
+            v,
+            place,
+            board,
+            running,
+            progress,
+            bars,
+            rows,
+            members,
+            points,
+            texts,
+            memory,
+            lost,
+            b,
+            notes,
+            chord,
+        );
+        progress = walked.progress;
+        running = walked.running;
+        at = walked.next;
+        let Place::At(_) = at else {
+            return Entered {
+                progress,
+                running,
+                next: at,
+            };
+        };
+        i += 1;
+    }
+    Entered {
+        progress,
+        running,
+        next: at,
+    }
+}
+
+// What is remembered of a track is lent to all beats of one of its voices in a bar, and then put back.
 fn beats(
     s: &[u8],
     from: Place,
@@ -123,6 +231,7 @@ fn beats(
     notes: &mut Notes,
     chord: &mut Chord,
 ) -> Step
+    requires { ⌜ place .track * partStride + partStride ≤ length (now parts) ⌝ }
     ensures { λ r.
         let before = walkOf (now (bars .entry)) (now (rows .entry)) (now (members .entry))
         (now (points .entry)) (now (texts .entry)) (now (parts .entry)) (tallyOf progress (now (lost .entry))) in
@@ -131,35 +240,42 @@ fn beats(
         ⌜ Reaches (turns n 0 (file.oneBeat (entering false (now (s .entry))) v (place .bar) (place .track) (place .voice)) before)
         (now (s .entry)) from after (r .next) ⌝ }
 {
-    let mut progress = progress;
-    let mut at = from;
-    let mut i = 0;
-    while i < n {
-        let walked = one_beat(
-            s,
-            at,
-            v,
-            place,
+    if n == 0 {
+        return Step {
             progress,
-            bars,
-            rows,
-            members,
-            points,
-            texts,
-            parts,
-            lost,
-            b,
-            notes,
-            chord,
-        );
-        progress = walked.progress;
-        at = walked.next;
-        let Place::At(_) = at else {
-            return Step { progress, next: at };
+            next: from,
         };
-        i += 1;
     }
-    Step { progress, next: at }
+    let track = place.track as usize;
+    let voice = place.voice as usize;
+    let board = into_tracks::parts::board_at(parts, track);
+    let mut memory = into_tracks::parts::voice_at(parts, track, voice);
+    let running = into_tracks::parts::running_at(parts, track);
+    let entered = held_beats(
+        s,
+        from,
+        v,
+        n,
+        place,
+        board,
+        running,
+        progress,
+        bars,
+        rows,
+        members,
+        points,
+        texts,
+        &mut memory,
+        lost,
+        b,
+        notes,
+        chord,
+    );
+    into_tracks::parts::put_voice(parts, track, voice, &memory);
+    into_tracks::parts::put_running(parts, track, entered.running);
+    let progress = entered.progress;
+    let next = entered.next;
+    Step { progress, next }
 }
 
 // A beat that is read to be counted.
@@ -246,6 +362,7 @@ fn voice(
     notes: &mut Notes,
     chord: &mut Chord,
 ) -> Step
+    requires { ⌜ place .track * partStride + partStride ≤ length (now parts) ⌝ }
     ensures { λ r.
         let before = walkOf (now (bars .entry)) (now (rows .entry)) (now (members .entry))
         (now (points .entry)) (now (texts .entry)) (now (parts .entry)) (tallyOf progress (now (lost .entry))) in
@@ -316,6 +433,7 @@ fn voices(
     notes: &mut Notes,
     chord: &mut Chord,
 ) -> Step
+    requires { ⌜ track * partStride + partStride ≤ length (now parts) ⌝ }
     ensures { λ r.
         let before = walkOf (now (bars .entry)) (now (rows .entry)) (now (members .entry))
         (now (points .entry)) (now (texts .entry)) (now (parts .entry)) (tallyOf progress (now (lost .entry))) in
@@ -379,6 +497,7 @@ fn bar_track(
     notes: &mut Notes,
     chord: &mut Chord,
 ) -> Step
+    requires { ⌜ track * partStride + partStride ≤ length (now parts) ⌝ }
     ensures { λ r.
         let before = walkOf (now (bars .entry)) (now (rows .entry)) (now (members .entry))
         (now (points .entry)) (now (texts .entry)) (now (parts .entry)) (tallyOf progress (now (lost .entry))) in
@@ -430,6 +549,7 @@ fn bar_tracks(
     notes: &mut Notes,
     chord: &mut Chord,
 ) -> Step
+    requires { ⌜ tracks * partStride ≤ length (now parts) ⌝ }
     ensures { λ r.
         let before = walkOf (now (bars .entry)) (now (rows .entry)) (now (members .entry))
         (now (points .entry)) (now (texts .entry)) (now (parts .entry)) (tallyOf progress (now (lost .entry))) in
@@ -490,6 +610,7 @@ fn one_bar(
     notes: &mut Notes,
     chord: &mut Chord,
 ) -> Step
+    requires { ⌜ tracks * partStride ≤ length (now parts) ⌝ }
     ensures { λ r.
         let before = walkOf (now (bars .entry)) (now (rows .entry)) (now (members .entry))
         (now (points .entry)) (now (texts .entry)) (now (parts .entry)) (tallyOf progress (now (lost .entry))) in
@@ -540,6 +661,7 @@ fn every_bar(
     notes: &mut Notes,
     chord: &mut Chord,
 ) -> Step
+    requires { ⌜ tracks * partStride ≤ length (now parts) ⌝ }
     ensures { λ r.
         let before = walkOf (now (bars .entry)) (now (rows .entry)) (now (members .entry))
         (now (points .entry)) (now (texts .entry)) (now (parts .entry)) (tallyOf progress (now (lost .entry))) in
@@ -597,6 +719,7 @@ pub fn all_bars(
     texts: &mut [u32],
     parts: &mut [u32],
 ) -> Walked
+    requires { ⌜ tracks * partStride ≤ length (now parts) ⌝ }
     ensures { λ r.
         let before = walkOf (now (bars .entry)) (now (rows .entry)) (now (members .entry))
         (now (points .entry)) (now (texts .entry)) (now (parts .entry)) tally in

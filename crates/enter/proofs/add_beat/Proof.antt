@@ -15,13 +15,12 @@ add-beat-spec =
     (λ c κs. search needs)
     (λ c. search needs)
     (λ c. search needs)
-    (λ c. search needs)
-    (λ c.
-    let a = c .before .before .before .before .before .before .before .before .before .before .before .before .before .before .before .before .before .before .before .before .before .before .args in
-    let plain = c .before .before .before .before .before .before .before .before .before .before .before .before .before .is-plain .ensures (c .before .before .before .before .before .before .before .before .before .before .before .before .if1 .taken) (a .s .now) (a .v) in
-    adds-plain (a .s .now) (a .place) (beatIn (a .s .now) (a .v) (a .b .now) (a .notes .now)) (a .progress) (a .lost .now) (a .bars .now) (a .rows .now) (a .members .now) (a .points .now) (a .texts .now) (a .parts .now) plain
-    (omega (arith, c .before .before .before .before .before .before .before .before .before .before .before .before .before .before .before .before .before .before .before .before .before .before .good))
-    (c .before .before .before .before .before .before .before .sound-plain .ensures .1 (a .s .now) (a .v) (a .points .now) plain))
+    (λ c. let a = c .before .before .before .before .before .before .before .before .before .before .before .before .before .before .before .before .before .before .before .args in
+    let plain = c .before .before .before .before .before .before .before .before .before .before .before .is-plain .ensures (c .before .before .before .before .before .before .before .before .before .before .if1 .taken) (a .s .now) (a .v) in
+    λ parts lent.
+    adds-plain (a .s .now) (a .place) (beatIn (a .s .now) (a .v) (a .b .now) (a .notes .now)) (a .progress) (a .lost .now) (a .bars .now) (a .rows .now) (a .members .now) (a .points .now) (a .texts .now) parts plain
+    (omega (arith, c .before .before .before .before .before .before .before .before .before .before .before .before .before .before .before .before .before .before .before .good))
+    (c .before .before .before .before .before .sound-plain .ensures .1 (a .s .now) (a .v) (a .points .now) parts plain lent))
     (λ c κs. search needs)
     (λ c κs. search needs)
     (λ c κs. search needs)
@@ -30,16 +29,15 @@ add-beat-spec =
     (λ c κs. search needs)
     (λ c κs. search needs)
     (λ c. search needs)
-    (λ c. c .before .before .before .before .before .before .before .before .before .before .before .before .before .before .before .before .before .before .before .before .before .before .before .before .sound .kept .1 .1 .1 .1 .1 .1 .1 .1 .0)
-    (λ c. c .before .before .before .before .before .before .before .before .before .before .before .before .before .before .before .before .before .before .before .before .before .before .before .before .sound .kept .1 .1 .1 .1 .1 .1 .1 .1 .1 .0)
-    (λ c. c .before .before .before .before .before .before .before .before .before .before .before .before .before .before .before .before .before .before .before .before .before .before .before .before .sound .kept .1 .1 .1 .1 .1 .1 .1 .1 .1 .1 .0)
+    (λ c. c .before .before .before .before .before .before .before .before .before .before .before .before .before .before .before .before .before .before .before .before .before .before .sound .kept .1 .1 .1 .1 .1 .1 .1 .1 .0)
+    (λ c. c .before .before .before .before .before .before .before .before .before .before .before .before .before .before .before .before .before .before .before .before .before .before .sound .kept .1 .1 .1 .1 .1 .1 .1 .1 .1 .0)
+    (λ c. c .before .before .before .before .before .before .before .before .before .before .before .before .before .before .before .before .before .before .before .before .before .before .sound .kept .1 .1 .1 .1 .1 .1 .1 .1 .1 .1 .0)
     (λ c. search needs)
-    (λ c. search needs)
-    (λ c.
-    let a = c .before .before .before .before .before .before .before .before .before .before .before .before .before .before .before .before .before .before .before .before .before .before .before .before .before .before .before .before .before .before .before .before .before .before .before .before .before .before .before .before .args in
+    (λ c. let a = c .before .before .before .before .before .before .before .before .before .before .before .before .before .before .before .before .before .before .before .before .before .before .before .before .before .before .before .before .before .before .before .before .before .before .before .before .before .args in
     let text = c .before .before .before .before .before .before .before .before .before .before .before .before .before .before .enter-text .ensures (a .v) (a .notes .now) in
-    adds (a .s .now) (a .place) (beatIn (a .s .now) (a .v) (a .b .now) (a .notes .now)) (a .progress) (a .lost .now) (a .bars .now) (a .rows .now) (a .members .now) (a .points .now) (a .texts .now) (a .parts .now)
-    (c .before .before .before .before .before .before .before .before .before .before .before .before .before .before .before .before .before .before .before .before .before .before .before .before .sound .ensures .1)
+    λ parts lent.
+    adds (a .s .now) (a .place) (beatIn (a .s .now) (a .v) (a .b .now) (a .notes .now)) (a .progress) (a .lost .now) (a .bars .now) (a .rows .now) (a .members .now) (a .points .now) (a .texts .now) parts
+    (c .before .before .before .before .before .before .before .before .before .before .before .before .before .before .before .before .before .before .before .before .before .before .sound .ensures .1 parts lent)
     (text .0)
     (text .1)
     (rw (c .before .before .before .before .before .before .before .before .before .before .before .tempo .ensures) at (c .before .before .before .before .before .before .before .before .set-first-tempo .ensures))

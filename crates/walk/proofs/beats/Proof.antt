@@ -1,52 +1,34 @@
--- Beat by beat.
+-- The words of the track are lent, and put back.
 use borrow.Author.Needs.{needs}
-use Prim.Native.Nat.{_-_, _≤_}
 use native.Mathlib.Omega.{arith}
-use mathlib.Core.Path.{_≡_, refl}
-use mathlib.Core.Bool.{false}
-use lib.ListN.{length}
-use Rattle.format.specs.Prog.{turns}
-use Rattle.format.specs.Place.{Leads}
-use Rattle.format.proofs.Rules.{turn-on, turns-done, turns-start, turns-still}
-use Rattle.score.specs.File.{oneBeat}
-use Rattle.words.specs.Meant.{walkOf}
-use Rattle.enter.specs.Steps.{tallyOf}
-use Rattle.walk.specs.Entering.{entering}
+use Rattle.format.proofs.Rules.{turns-start, turns-done}
+use Rattle.walk.proofs.Held.{put-there}
 use Rattle.walk.proofs.beats.Statement.{statement}
 use Rattle.walk.proofs.beats.Tie as tie
 
-abbrev Inv-loop : tie.InvT-loop
-Inv-loop s v n place bars₀ rows₀ members₀ points₀ texts₀ parts₀ lost₀ b₀ notes₀ chord₀ progress₀ at₀ i₀ bars rows members points texts parts lost b notes chord progress at i =
-    (i ≤ n) × (length bars ≡ length bars₀) × (length rows ≡ length rows₀) × (length members ≡ length members₀) × (length points ≡ length points₀) × (length texts ≡ length texts₀) × (length parts ≡ length parts₀) × Leads (turns n 0 (oneBeat (entering false s) v (place .bar) (place .track) (place .voice)) (walkOf bars₀ rows₀ members₀ points₀ texts₀ parts₀ (tallyOf progress₀ lost₀))) s at₀ (turns (n - i) i (oneBeat (entering false s) v (place .bar) (place .track) (place .voice)) (walkOf bars rows members points texts parts (tallyOf progress lost))) at
-
-abbrev μ-loop : tie.MeasureT-loop
-μ-loop s v n place bars₀ rows₀ members₀ points₀ texts₀ parts₀ lost₀ b₀ notes₀ chord₀ progress₀ at₀ i₀ bars rows members points texts parts lost b notes chord progress at i = n - i
-
 pub beats-spec : {M : Type 1} → statement M
-unfolding oneBeat
 beats-spec =
     tie.close
     (tie.spec
-    Inv-loop
-    μ-loop
-    (λ c. (omega arith, refl, refl, refl, refl, refl, refl, turns-start _ _ _))
+    (λ c. turns-done _ _ _ _ (turns-start _ _ _) (omega (arith, c .if1 .taken)))
+    (λ c. search needs)
+    (λ c. search needs)
     (λ c κs. search needs)
-    (λ c. search needs)
-    (λ c. search needs)
-    (λ c. omega (arith, c .before .before .before .before .before .before .before .before .before .before .before .before .before .before .before .one-beat .kept .1 .1 .1 .1 .1 .0, c .before .before .before .before .before .before .before .before .before .before .before .before .before .before .before .before .before .before .before .before .before .before .before .before .before .before .before .loop .inv .1))
-    (λ c. omega (arith, c .before .before .before .before .before .before .before .before .before .before .before .before .before .before .before .one-beat .kept .1 .1 .1 .1 .1 .1 .0, c .before .before .before .before .before .before .before .before .before .before .before .before .before .before .before .before .before .before .before .before .before .before .before .before .before .before .before .loop .inv .2))
-    (λ c. omega (arith, c .before .before .before .before .before .before .before .before .before .before .before .before .before .before .before .one-beat .kept .1 .1 .1 .1 .1 .1 .1 .0, c .before .before .before .before .before .before .before .before .before .before .before .before .before .before .before .before .before .before .before .before .before .before .before .before .before .before .before .loop .inv .3))
-    (λ c. omega (arith, c .before .before .before .before .before .before .before .before .before .before .before .before .before .before .before .one-beat .kept .1 .1 .1 .1 .1 .1 .1 .1 .0, c .before .before .before .before .before .before .before .before .before .before .before .before .before .before .before .before .before .before .before .before .before .before .before .before .before .before .before .loop .inv .4))
-    (λ c. omega (arith, c .before .before .before .before .before .before .before .before .before .before .before .before .before .before .before .one-beat .kept .1 .1 .1 .1 .1 .1 .1 .1 .1 .0, c .before .before .before .before .before .before .before .before .before .before .before .before .before .before .before .before .before .before .before .before .before .before .before .before .before .before .before .loop .inv .5))
-    (λ c. omega (arith, c .before .before .before .before .before .before .before .before .before .before .before .before .before .before .before .one-beat .kept .1 .1 .1 .1 .1 .1 .1 .1 .1 .1 .0, c .before .before .before .before .before .before .before .before .before .before .before .before .before .before .before .before .before .before .before .before .before .before .before .before .before .before .before .loop .inv .6))
-    (λ c. turns-still (turn-on _ _ _ _ (c .before .before .before .before .before .before .before .before .before .before .before .before .before .before .before .before .before .before .before .before .before .before .before .before .before .before .before .loop .inv .7) (c .before .before .before .before .before .before .before .before .before .before .before .before .before .before .before .before .before .before .before .before .before .before .before .before .before .before .loop-test .taken) (c .before .before .before .before .before .before .before .before .before .before .before .before .before .before .before .one-beat .ensures)) (c .enum-told2 .given .1))
-    (λ c. omega (arith, c .before .before .before .before .before .before .before .before .before .before .before .before .before .before .before .before .before .before .before .before .before .before .before .before .before .before .loop-test .taken, c .before .before .before .before .before .before .before .before .before .before .before .before .before .before .before .before .before .before .before .before .before .before .before .before .before .before .before .before .before .before .before .before .before .before .before .fits))
-    (λ c. omega (arith, c .before .before .before .before .before .before .before .before .before .before .before .before .before .before .before .before .before .before .before .before .before .before .before .before .before .before .loop-test .taken))
-    (λ c. (omega (arith, c .before .before .before .before .before .before .before .before .before .before .before .before .before .before .before .before .before .before .before .before .before .before .before .before .before .before .loop-test .taken), omega (arith, c .before .before .before .before .before .before .before .before .before .before .before .before .before .before .before .one-beat .kept .1 .1 .1 .1 .1 .0, c .before .before .before .before .before .before .before .before .before .before .before .before .before .before .before .before .before .before .before .before .before .before .before .before .before .before .before .loop .inv .1), omega (arith, c .before .before .before .before .before .before .before .before .before .before .before .before .before .before .before .one-beat .kept .1 .1 .1 .1 .1 .1 .0, c .before .before .before .before .before .before .before .before .before .before .before .before .before .before .before .before .before .before .before .before .before .before .before .before .before .before .before .loop .inv .2), omega (arith, c .before .before .before .before .before .before .before .before .before .before .before .before .before .before .before .one-beat .kept .1 .1 .1 .1 .1 .1 .1 .0, c .before .before .before .before .before .before .before .before .before .before .before .before .before .before .before .before .before .before .before .before .before .before .before .before .before .before .before .loop .inv .3), omega (arith, c .before .before .before .before .before .before .before .before .before .before .before .before .before .before .before .one-beat .kept .1 .1 .1 .1 .1 .1 .1 .1 .0, c .before .before .before .before .before .before .before .before .before .before .before .before .before .before .before .before .before .before .before .before .before .before .before .before .before .before .before .loop .inv .4), omega (arith, c .before .before .before .before .before .before .before .before .before .before .before .before .before .before .before .one-beat .kept .1 .1 .1 .1 .1 .1 .1 .1 .1 .0, c .before .before .before .before .before .before .before .before .before .before .before .before .before .before .before .before .before .before .before .before .before .before .before .before .before .before .before .loop .inv .5), omega (arith, c .before .before .before .before .before .before .before .before .before .before .before .before .before .before .before .one-beat .kept .1 .1 .1 .1 .1 .1 .1 .1 .1 .1 .0, c .before .before .before .before .before .before .before .before .before .before .before .before .before .before .before .before .before .before .before .before .before .before .before .before .before .before .before .loop .inv .6), turn-on _ _ _ _ (c .before .before .before .before .before .before .before .before .before .before .before .before .before .before .before .before .before .before .before .before .before .before .before .before .before .before .before .loop .inv .7) (c .before .before .before .before .before .before .before .before .before .before .before .before .before .before .before .before .before .before .before .before .before .before .before .before .before .before .loop-test .taken) (c .before .before .before .before .before .before .before .before .before .before .before .before .before .before .before .one-beat .ensures)))
-    (λ c. c .before .loop .inv .1)
-    (λ c. c .before .loop .inv .2)
-    (λ c. c .before .loop .inv .3)
-    (λ c. c .before .loop .inv .4)
-    (λ c. c .before .loop .inv .5)
-    (λ c. c .before .loop .inv .6)
-    (λ c. turns-done _ _ _ _ (c .before .loop .inv .7) (omega (arith, c .loop-test .left))))
+    (λ c κs. search needs)
+    (λ c κs. search needs)
+    (λ c κs. search needs)
+    (λ c κs. search needs)
+    (λ c κs. search needs)
+    (λ c. c .before .before .before .before .before .before .before .before .before .before .before .before .before .before .before .before .before .before .before .before .held-beats .kept .1 .1 .1 .1 .1 .1 .1 .1 .0)
+    (λ c. c .before .before .before .before .before .before .before .before .before .before .before .before .before .before .before .before .before .before .before .before .held-beats .kept .1 .1 .1 .1 .1 .1 .1 .1 .1 .0)
+    (λ c. c .before .before .before .before .before .before .before .before .before .before .before .before .before .before .before .before .before .before .before .before .held-beats .kept .1 .1 .1 .1 .1 .1 .1 .1 .1 .1 .0)
+    (λ c. c .before .before .before .before .before .before .before .before .before .before .before .before .before .before .before .before .before .before .before .before .held-beats .kept .1 .1 .1 .1 .1 .1 .1 .1 .1 .1 .1 .0)
+    (λ c. c .before .before .before .before .before .before .before .before .before .before .before .before .before .before .before .before .before .before .before .before .held-beats .kept .1 .1 .1 .1 .1 .1 .1 .1 .1 .1 .1 .1 .0)
+    (λ c. omega (arith, c .before .before .before .put-running .kept .0, c .before .before .before .before .before .before .before .put-voice .kept .0))
+    (λ c. let start = c .before .before .before .before .before .before .before .before .before .before .before .before .before .before .before .before .before .before .before .before .before .before .before .before .before .before .before .before .before .before .before .before .before .before .before .before .before .before .before .before .before .before .before .before .before .before .before in
+    let a = start .args in
+    put-there (a .place .track) (a .place .voice) _ _ _
+    (c .before .before .before .before .before .before .before .before .before .before .before .before .before .before .before .before .before .before .before .before .held-beats .ensures (a .parts .now) (omega (arith, c .before .before .before .before .before .before .before .before .before .before .before .before .before .before .before .before .before .before .before .before .before .before .before .before .before .before .before .before .before .before .before .before .before .before .before .before .before .before .before .if1 .left)) (start .pre)
+    (record { on = c .before .before .before .before .before .before .before .before .before .before .before .before .before .before .before .before .before .before .before .before .before .before .before .before .before .before .before .before .before .before .before .before .before .before .before .board-at .ensures; remembers = c .before .before .before .before .before .before .before .before .before .before .before .before .before .before .before .before .before .before .before .before .before .before .before .before .before .before .before .before .before .before .before .before .before .voice-at .ensures; runs = c .before .before .before .before .before .before .before .before .before .before .before .before .before .before .before .before .before .before .before .before .before .before .before .before .before .before .before .before .before .before .before .running-at .ensures }))
+    (c .before .before .before .before .before .before .before .put-voice .ensures)
+    (c .before .before .before .put-running .ensures)))
