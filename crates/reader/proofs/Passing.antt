@@ -47,21 +47,22 @@ module _ (counting : Bool) (s : List ℕ) (t : Lent) (g : Opening) where
 -- ---- one after another
 module _ (counting : Bool) (s : List ℕ) {bars tracks rows members points texts parts : List ℕ} where
   pub passes : {song : SongRead} {programs : List (List ℕ)} {time : Time} {before later : Before} {lost lost2 lost3 : List ℕ} {tally tally2 : Tally}
-      {bars2 bars3 tracks2 rows2 members2 points2 texts2 parts2 parts3 : List ℕ} {at at2 at3 at4 : Place}
+      {bars2 bars3 tracks2 rows2 members2 points2 texts2 parts2 parts3 : List ℕ} {held : ℕ} {at at2 at3 at4 : Place}
       → Reaches File.opening s (At 0) (songOf song programs) at
       → before ≡ beforeBars → lost ≡ report (words []) (reportIf (song .swing) TripletFeel ++ reported (unsupported (song .directions) otherSigns) UnsupportedDirection) (replicate 17 0)
       → Reaches (turns (song .counts .bars) 0 (headerStep (song .version) (song .directions)) (timedOf commonTime bars before lost)) s at (timedOf time bars2 later lost2) at2
       → Reaches (turns (song .counts .tracks) 0 (trackStep (song .version) programs) (stavesOf tracks parts lost2)) s at2 (stavesOf tracks2 parts2 lost3) at3
       → tally ≡ beforeBeats lost3
-      → Reaches (turns (song .counts .bars) 0 (bar (entering counting s) (song .version) (song .counts .tracks)) (walkOf bars2 rows members points texts parts2 tally)) s at3 (walkOf bars3 rows2 members2 points2 texts2 parts3 tally2) at4
+      → held ≡ song .counts .tracks
+      → Reaches (turns (song .counts .bars) 0 (bar (entering counting s) (song .version) held) (walkOf bars2 rows members points texts parts2 tally)) s at3 (walkOf bars3 rows2 members2 points2 texts2 parts3 tally2) at4
       → Passes counting s (lentOf bars tracks rows members points texts parts) (lentOf bars3 tracks2 rows2 members2 points2 texts2 parts3) song tally2 at4
   unfolding File.file File.score noTracks noBeats
-  passes {song} {programs} {lost3 = lost3} {parts2 = parts2} a e f h u g w =
+  passes {song} {programs} {lost3 = lost3} {parts2 = parts2} a e f h u g k w =
       let t : Lent = lentOf bars tracks rows members points texts parts in
       let x : Opening = songOf song programs in
       record {
         programs = programs;
         parts = parts2;
         losses = lost3;
-        reaches = then _ a (then _ (rw (headers-are counting s t x) at (rw (e, f) at h)) (then _ (rw (tracks-are counting s t x _) at u) (then _ (rw (bars-are counting s t x _) at (rw g at w)) done)));
+        reaches = then _ a (then _ (rw (headers-are counting s t x) at (rw (e, f) at h)) (then _ (rw (tracks-are counting s t x _) at u) (then _ (rw (bars-are counting s t x _) at (rw (g, k) at w)) done)));
       }

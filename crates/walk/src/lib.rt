@@ -18,8 +18,9 @@ ghost use Rattle.words.specs.Meant.{walkOf};
 ghost use mathlib.Core.Path.{_≡_};
 ghost use mathlib.Core.Bool.{false};
 ghost use mathlib.Core.List.{List};
-ghost use Prim.Native.Nat.{ℕ, _+_, _*_, _<_, _≤_};
+ghost use Prim.Native.Nat.{ℕ, _+_, _*_, _<_, _≤_, min};
 ghost use lib.ListN.{length};
+ghost use Rattle.tables.specs.Table.{room};
 ghost use Rattle.words.specs.Words.{partStride};
 ghost use Rattle.words.specs.Voices.{voiceIn};
 ghost use Rattle.enter.specs.Steps.{tallyOf};
@@ -703,6 +704,17 @@ fn every_bar(
     Step { progress, next: at }
 }
 
+// Of so many tracks those that have all their words there. A file has no more tracks than the reader has words for.
+fn tracks_with_words(tracks: u32, parts: &[u32]) -> u32
+    ensures { λ r. ⌜ r ≡ min tracks (room (now (parts .entry)) partStride) ⌝ }
+{
+    let most = tables::room_of(parts, into_tracks::parts::PART_WORDS);
+    if most < (tracks as usize) {
+        return most as u32;
+    }
+    tracks
+}
+
 // All bars, each with its tracks, voices and beats. The words of a beat, of its notes and of a chord serve one beat after another.
 pub fn all_bars(
     s: &[u8],
@@ -719,15 +731,16 @@ pub fn all_bars(
     texts: &mut [u32],
     parts: &mut [u32],
 ) -> Walked
-    requires { ⌜ tracks * partStride ≤ length (now parts) ⌝ }
     ensures { λ r.
+        let held = min tracks (room (now (parts .entry)) partStride) in
         let before = walkOf (now (bars .entry)) (now (rows .entry)) (now (members .entry))
         (now (points .entry)) (now (texts .entry)) (now (parts .entry)) tally in
         let after = walkOf (now (bars .exit)) (now (rows .exit)) (now (members .exit))
         (now (points .exit)) (now (texts .exit)) (now (parts .exit)) (r .tally) in
-        ⌜ Reaches (turns n 0 (file.bar (entering counting (now (s .entry))) v tracks) before)
+        ⌜ Reaches (turns n 0 (file.bar (entering counting (now (s .entry))) v held) before)
         (now (s .entry)) from after (r .next) ⌝ }
 {
+    let held = tracks_with_words(tracks, parts);
     let mut lost = tally.losses;
     let mut b = [0usize; 19];
     let mut notes = [0usize; 144];
@@ -738,7 +751,7 @@ pub fn all_bars(
         v,
         counting,
         n,
-        tracks,
+        held,
         progress_of(tally),
         bars,
         rows,
