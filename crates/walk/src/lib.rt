@@ -137,7 +137,7 @@ fn one_beat(
     }
 }
 
-// Beats, at least one, of a track whose words are all there.
+// The promise is for one beat or more of a track of which no word is missing: then what a beat leaves is what the next would load.
 fn held_beats(
     s: &[u8],
     from: Place,
@@ -213,7 +213,7 @@ fn held_beats(
     }
 }
 
-// What is remembered of a track is lent to all beats of one of its voices in a bar, and then put back.
+// What is remembered of a track is lent to all beats of one of its voices in a bar, and then put back; without a beat nothing is.
 fn beats(
     s: &[u8],
     from: Place,
@@ -716,6 +716,7 @@ fn tracks_with_words(tracks: u32, parts: &[u32]) -> u32
 }
 
 // All bars, each with its tracks, voices and beats. The words of a beat, of its notes and of a chord serve one beat after another.
+// `parts` has the words of every track.
 pub fn all_bars(
     s: &[u8],
     from: Place,
