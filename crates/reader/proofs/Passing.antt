@@ -1,5 +1,6 @@
 -- The parts of a pass are the parts of the whole file.
-use Prim.Native.Nat.{ℕ}
+use Prim.Native.Nat.{ℕ, _≤_, _/_, min}
+use native.Mathlib.Omega.{arith}
 use mathlib.Core.Path.{_≡_, refl}
 use mathlib.Core.Bool.{Bool}
 use mathlib.Core.List.{List, [], _++_}
@@ -19,7 +20,7 @@ use Rattle.score.specs.declared.Tally.{Tally}
 use Rattle.score.specs.File as File
 use Rattle.score.specs.File.{Opening, oneHeader, headers, oneTrack, tracks, oneBeat, voice, barTrack, bar, bars}
 use Rattle.score.specs.Page.{Staves, Walk, report, keeping, noBars, noTracks, noBeats, addHeader, addTrack}
-use Rattle.words.specs.Words.{Words, words}
+use Rattle.words.specs.Words.{Words, words, partStride}
 use Rattle.words.specs.Counted.{passing}
 use Rattle.front.specs.declared.SongRead.{SongRead}
 use Rattle.words.specs.Meant.{walkOf}
@@ -43,6 +44,10 @@ module _ (counting : Bool) (s : List ℕ) (t : Lent) (g : Opening) where
   pub bars-are : (w : Walk Words) → turns (g .counts .bars) 0 (bar (entering counting s) (g .version) (g .counts .tracks)) w ≡ bars (passing counting (keeping (words s) (lent t))) g w
   unfolding bars bar barTrack voice oneBeat
   bars-are w = refl
+
+-- a file has no more tracks than there are words for
+pub all-held : {tracks before after : ℕ} → tracks ≤ 100 → after ≡ before → 4200 ≤ before → min tracks (after / partStride) ≡ tracks
+all-held few same enough = omega arith
 
 -- ---- one after another
 module _ (counting : Bool) (s : List ℕ) {bars tracks rows members points texts parts : List ℕ} where
