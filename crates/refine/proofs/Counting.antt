@@ -132,7 +132,7 @@ module _ (s : List ℕ) (at : RowPlace) (board : Fretboard) (flat : Bool) (runni
 
 -- ---- what a track is played on stays
 
-sets-below : (t : List ℕ) (at : ℕ) (u : List ℕ) (j : ℕ) → j < at → getD (sets t at u) j 0 ≡ getD t j 0
+pub sets-below : (t : List ℕ) (at : ℕ) (u : List ℕ) (j : ℕ) → j < at → getD (sets t at u) j 0 ≡ getD t j 0
 sets-below t at [] j h = refl
 sets-below t at (a ∷ u) j h =
     sets-below (set t at a) (suc at) u j (omega arith)

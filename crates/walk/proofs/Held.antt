@@ -25,6 +25,7 @@ use Rattle.words.specs.Voices.{voiceIn}
 use Rattle.words.specs.Meant.{walkOf}
 use Rattle.refine.proofs.Parts.{LastFits, HammerFits, VoiceFits, voice-length}
 use Rattle.refine.proofs.PartWords.{voice-back, voice-loads, board-loads}
+use Rattle.refine.proofs.Counting.{sets-below}
 use Rattle.refine.proofs.Shown.{pick-both}
 use Rattle.enter.specs.Held.{Lent, putBack}
 
@@ -44,15 +45,11 @@ sets-sets (w ∷ ws) (u ∷ us) l a h =
     ∙ ap (λ (x : List ℕ). sets (sets x (suc a) ws) (suc a) us) (set-set l a w u)
     ∙ sets-sets ws us (set l a u) (suc a) (omega arith)
 
-below : (ws l : List ℕ) (a j : ℕ) → j < a → getD (sets l a ws) j 0 ≡ getD l j 0
-below [] l a j h = refl
-below (w ∷ ws) l a j h = below ws (set l a w) (suc a) j (omega arith) ∙ getD-set-other l a j w 0 (λ e. let z : ⊥ = omega arith in z)
-
 inside : (ws l : List ℕ) (a k : ℕ) → k < length ws → a + length ws ≤ length l → getD (sets l a ws) (a + k) 0 ≡ getD ws k 0
 inside [] l a k h g = absurd (omega arith)
 inside (w ∷ ws) l a zero h g =
     let e : a + zero ≡ a = omega arith in
-    rw e (below ws (set l a w) (suc a) a (omega arith) ∙ getD-set-same l a w 0 (omega arith))
+    rw e (sets-below (set l a w) (suc a) ws a (omega arith) ∙ getD-set-same l a w 0 (omega arith))
 inside (w ∷ ws) l a (suc k) h g =
     let e : a + suc k ≡ suc a + k = omega arith in
     rw e (inside ws (set l a w) (suc a) k (omega arith) (omega (arith, length-set l a w)))
@@ -103,7 +100,7 @@ module _ (track voice : ℕ) where
       let put = sets parts at ws in
       let own = drop (track * partStride) parts in
       let kept : (j : ℕ) → j < running → getD (set put running r) j 0 ≡ getD parts j 0
-      = λ j l. getD-set-other put running j r 0 (λ e. let z : ⊥ = omega arith in z) ∙ below ws parts at j (omega (arith, place-within voice .0)) in
+      = λ j l. getD-set-other put running j r 0 (λ e. let z : ⊥ = omega arith in z) ∙ sets-below parts at ws j (omega (arith, place-within voice .0)) in
       record {
         on =
             x .on
