@@ -1,5 +1,5 @@
 -- Signed numbers of every width, by the half of the unsigned range.
-use Prim.Native.Nat.{ℕ, _+_, _-_, _%_}
+use Prim.Native.Nat.{ℕ, _+_, _-_}
 use lib.Dec.{ltb}
 use lib.IntN.{ℤ, pos, negsuc}
 use Rattle.format.specs.Text.{pick}
@@ -12,7 +12,3 @@ signed half v = pick (ltb v half) (pos v) (negsuc (half + half - 1 - v))
 unfoldable pub unsigned : ℕ → ℤ → ℕ
 unsigned half (pos n) = n
 unsigned half (negsuc n) = half + half - 1 - n
-
--- one less, with wrapping: below the lowest number stands the highest
-unfoldable pub lessOneWrapped : ℕ → ℕ
-lessOneWrapped v = (v + 4294967295) % 4294967296

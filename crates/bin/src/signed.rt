@@ -1,6 +1,7 @@
 // Two's complement numbers as signed ones, and back. In two's complement, `!x` is -1 - x.
 ghost use mathlib.Core.Path.{_≡_};
-ghost use Rattle.bin.specs.Signed.{signed, unsigned, lessOneWrapped};
+ghost use Rattle.format.specs.Fields.{lessOne};
+ghost use Rattle.bin.specs.Signed.{signed, unsigned};
 
 pub fn to_i8(v: u8) -> i8
     ensures { λ r. ⌜ r ≡ signed 128 v ⌝ }
@@ -56,9 +57,15 @@ pub fn from_i32(k: i32) -> u32
     k as u32
 }
 
-// One less; below 0 stands the highest number.
+// One less, and never below 0: a value below 1 is 0, the lowest number as any other.
 pub fn less_one(v: u32) -> u32
-    ensures { λ r. ⌜ r ≡ lessOneWrapped v ⌝ }
+    ensures { λ r. ⌜ r ≡ lessOne v ⌝ }
 {
-    std::num::wrapping_sub_u32(v, 1)
+    if crate::NEGATIVE <= v {
+        return 0;
+    }
+    if v == 0 {
+        return 0;
+    }
+    v - 1
 }

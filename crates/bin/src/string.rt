@@ -6,6 +6,7 @@ ghost use lib.Seq.{slice};
 ghost use Rattle.format.specs.Text.{blank, cutLen, leadLen, keepLen, rangeOf, noText, textIn};
 ghost use Rattle.format.specs.Place.{Gives};
 ghost use Rattle.format.specs.Fields as field;
+use crate::signed::less_one;
 use format::NO_RANGE;
 use format::Place;
 use format::Range;
@@ -201,19 +202,6 @@ pub fn int_string(s: &[u8], from: Place) -> StringRead
     let n = crate::u32_at(s, from);
     let at = n.next;
     string_at(s, at, n.value)
-}
-
-// the size less one, and never below 0
-fn less_one(size: u32) -> u32
-    ensures { λ r. ⌜ r ≡ field.lessOne size ⌝ }
-{
-    if crate::NEGATIVE <= size {
-        return 0;
-    }
-    if size == 0 {
-        return 0;
-    }
-    size - 1
 }
 
 // A four-byte size, a length byte that is passed over, then the text.

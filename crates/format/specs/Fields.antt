@@ -31,6 +31,10 @@ textBytes n = text n (λ t. ret t)
 abbrev pub NEGATIVE : ℕ
 NEGATIVE = 2147483648
 
+-- a number less one, and never below 0: the size of a string; a port, a channel, a lyric track and a lyric start (document 02, e)
+unfoldable pub lessOne : ℕ → ℕ
+lessOne v = pick (leb NEGATIVE v) 0 (v - 1)
+
 -- document 01's number of a count, and its limit
 abbrev pub countNumber : Counted → ℕ
 countNumber C.NoticeLines = 1
@@ -82,10 +86,6 @@ intByteStringUnusedPast = bind (skip 4) (λ _. bind u8 skip)
 -- a length, the text
 unfoldable pub intString : Prog TextRead
 intString = bind u32 stringOf
-
--- the size less one, and never below 0
-unfoldable pub lessOne : ℕ → ℕ
-lessOne size = pick (leb NEGATIVE size) 0 (size - 1)
 
 -- a size, a length byte that is passed over, the text of size less one
 unfoldable pub intByteString : Prog TextRead

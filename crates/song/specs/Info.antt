@@ -1,14 +1,13 @@
 -- The song's texts, its notices and its lyrics.
 use Prim.Native.Nat.{ℕ}
-use mathlib.Core.Bool.{Bool, false, not}
+use mathlib.Core.Bool.{Bool, false, not, _||_}
 use mathlib.Core.List.{_∷_, []}
 use lib.Dec.{leb, eqb}
 use Rattle.format.specs.declared.Range.{Range}
 use Rattle.format.specs.declared.Counted.the-variants as C
 use Rattle.format.specs.Text.{TextRead, pick}
 use Rattle.format.specs.Prog.{Prog, ret, bind, whenLe, turns}
-use Rattle.format.specs.Fields.{u8, u32, NEGATIVE, count, intByteStringUnused, intByteStringUnusedPast, intString}
-use Rattle.bin.specs.Signed.{lessOneWrapped}
+use Rattle.format.specs.Fields.{u8, u32, NEGATIVE, lessOne, count, intByteStringUnused, intByteStringUnusedPast, intString}
 use Rattle.model.specs.declared.LyricLine.{LyricLine}
 use Rattle.model.specs.declared.LyricTrack.{LyricTrack}
 use Rattle.model.specs.declared.LyricTrack.the-variants.{NoLyricTrack, Under}
@@ -74,17 +73,13 @@ unfoldable pub tripletFeel : ℕ → Prog Bool
 tripletFeel v = whenLe 500 v (ret false) (bind u8 (λ b. ret (not (eqb b 0))))
 
 -- ---- lyrics: a track and five lines from v400 on, none before
--- the number less one, with wrapping, and none where that is negative; not bounded by the number of tracks (docs/RULES.md 25)
+-- none for a value below 1, else the number less one; not bounded by the number of tracks (docs/RULES.md 25)
 unfoldable pub lyricTrack : ℕ → LyricTrack
-lyricTrack v = pick (leb NEGATIVE (lessOneWrapped v)) NoLyricTrack (Under (lessOneWrapped v))
-
--- a number less one, with wrapping, and not below 0: a line's start, and a track's port and channel
-unfoldable pub fromZero : ℕ → ℕ
-fromZero v = pick (leb NEGATIVE (lessOneWrapped v)) 0 (lessOneWrapped v)
+lyricTrack v = pick (leb NEGATIVE v || eqb v 0) NoLyricTrack (Under (lessOne v))
 
 -- a start and a text
 unfoldable pub lyricLine : Prog LyricLine
-lyricLine = bind u32 (λ v. bind intString (λ t. ret (record { start = fromZero v; text = t .range })))
+lyricLine = bind u32 (λ v. bind intString (λ t. ret (record { start = lessOne v; text = t .range })))
 
 unfoldable pub fiveLines : LyricTrack → Prog Lyrics
 fiveLines track =

@@ -5,7 +5,6 @@ ghost use Rattle.format.specs.Text.{textIn};
 ghost use Rattle.format.specs.Place.{Gives, Reaches};
 ghost use Rattle.model.specs.Answers.{noLyrics};
 ghost use Rattle.song.specs.Info as info;
-use crate::from_zero;
 use bin::NEGATIVE;
 use bin::string::StringRead;
 use bin::string::int_byte_string_unused;
@@ -203,11 +202,13 @@ pub fn triplet_feel_at(s: &[u8], from: Place, v: u32) -> FeelRead
 fn lyric_track(v: u32) -> LyricTrack
     ensures { λ r. ⌜ r ≡ info.lyricTrack v ⌝ }
 {
-    let nth = bin::signed::less_one(v);
-    if NEGATIVE <= nth {
+    if NEGATIVE <= v {
         return LyricTrack::NoLyricTrack;
     }
-    LyricTrack::Under(nth)
+    if v == 0 {
+        return LyricTrack::NoLyricTrack;
+    }
+    LyricTrack::Under(bin::signed::less_one(v))
 }
 
 fn line_at(s: &[u8], from: Place) -> LineRead
@@ -217,7 +218,7 @@ fn line_at(s: &[u8], from: Place) -> LineRead
     let at = start.next;
     let text = bin::string::int_string(s, at);
     let next = text.next;
-    let start = from_zero(start.value);
+    let start = bin::signed::less_one(start.value);
     let text = text.range;
     LineRead {
         line: LyricLine { start, text },

@@ -12,10 +12,9 @@ use Rattle.model.specs.declared.Program.{Program}
 use Rattle.model.specs.declared.Program.the-variants.{NoProgram, Midi}
 use Rattle.format.specs.Text.{pick}
 use Rattle.format.specs.Prog.{Prog, ret, bind, whenLe, turns, has}
-use Rattle.format.specs.Fields.{u8, u32, skip, count, fixedString, intByteStringPast}
+use Rattle.format.specs.Fields.{u8, u32, lessOne, skip, count, fixedString, intByteStringPast}
 use Rattle.curve.specs.Held.{held, wordHalf}
 use Rattle.model.specs.Answers.{noRange}
-use Rattle.song.specs.Info.{fromZero}
 use Rattle.track.specs.declared.Sound.{Sound}
 use Rattle.track.specs.declared.Staff.{Staff}
 use Rattle.track.specs.declared.Strings.{Strings}
@@ -43,9 +42,9 @@ strings =
     bind (skip (4 * (7 - n))) (λ _.
     ret (record { count = n; tunings = ts }))))
 
--- ---- port and channel: the number less one, with wrapping, held to its range
+-- ---- port and channel: the number less one, 0 for a value below 1, held to its range
 unfoldable pub numbered : ℕ → ℕ → ℕ
-numbered last v = min (fromZero v) last
+numbered last v = min (lessOne v) last
 
 -- the capo is held to 0..24 (docs/RULES.md 14); passed over: "effect channel, fret count", and of the colour "every byte a `skip` passes"
 unfoldable pub sound : Prog Sound

@@ -14,7 +14,6 @@ use format::Range;
 use header::has;
 use model::Clef;
 use model::Program;
-use song::from_zero;
 
 // A track's strings: how many, and the keys of the open ones in the file's order, 0 past the last.
 pub struct Strings {
@@ -116,7 +115,7 @@ fn strings_at(s: &[u8], from: Place) -> StringsRead
 fn numbered(last: u8, v: u32) -> u8
     ensures { λ r. ⌜ r ≡ track.numbered last v ⌝ }
 {
-    let n = from_zero(v);
+    let n = bin::signed::less_one(v);
     if n < (last as u32) {
         return n as u8;
     }

@@ -300,7 +300,8 @@ pub fn at_limits(large: bool) -> Vec<Case> {
 }
 
 /// Inputs that each tell a wrong reading from the right one where no other of the fixed list does:
-/// bend positions that are rounded, an ottava run left open by a rest, the limit of texts.
+/// bend positions that are rounded, an ottava run left open by a rest, the limit of texts, unset
+/// ports.
 pub fn telling() -> Vec<Case> {
     let mut cases = vec![
         case("bend-at-every-offset", bend_at_every_offset()),
@@ -321,7 +322,40 @@ pub fn telling() -> Vec<Case> {
             with_marker(length),
         ));
     }
+    cases.extend(unset());
     cases
+}
+
+/// Where each number stands among those from one: lyric track, five starts, port, channel.
+const FROM_ONE: [(&str, usize); 4] = [
+    ("lyric-track", 0),
+    ("lyric-start", 1),
+    ("port", 6),
+    ("channel", 7),
+];
+
+/// Each number from one at the lowest number, 0 and 1, the others 3. The channel table has a
+/// program of its own in each entry, so that the track's program tells its port and channel.
+fn unset() -> Vec<Case> {
+    let mut made = plain(&Plan::smallest(VERSIONS[2]));
+    let table = place_of(&made, Count::Bars) - 64 * 12;
+    for entry in 0..64 {
+        made.set_i32(table + 12 * entry, entry as i32);
+    }
+    for at in made.numbers_from_one.clone() {
+        made.set_i32(at, 3);
+    }
+    let with = |(name, place): (&str, usize), value: i32, said: &str| {
+        let mut made = made.clone();
+        made.set_i32(made.numbers_from_one[place], value);
+        case(format!("{name}-{said}"), made.bytes)
+    };
+    FROM_ONE
+        .into_iter()
+        .flat_map(|field| {
+            [(i32::MIN, "unset"), (0, "0"), (1, "1")].map(|(value, said)| with(field, value, said))
+        })
+        .collect()
 }
 
 /// A bend with a point at each offset from 0 to 60, each of another height.

@@ -1,5 +1,5 @@
-//! Where document 01 decides and not the Rust: outside the domain. In the plain mode each of
-//! these is what the Rust has in its place.
+//! Where documents 01 and 02 decide and not the Rust: outside the domain. In the plain mode each
+//! of these is what the Rust has in its place.
 
 use crate::Error;
 use std::sync::atomic::{AtomicBool, Ordering};
@@ -16,12 +16,12 @@ fn is_plain() -> bool {
     PLAIN.load(Ordering::Relaxed)
 }
 
-/// "One is taken away with wrapping, as an unchecked build does."
+/// Document 02, e: the lowest number is "any other value below 1", so nothing wraps.
 pub fn less_one(value: i32) -> i32 {
     if is_plain() {
         value - 1
     } else {
-        value.wrapping_sub(1)
+        value.saturating_sub(1)
     }
 }
 

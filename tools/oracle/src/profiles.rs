@@ -16,7 +16,7 @@ pub fn write(profile: &str, seed: u64, count: usize, folder: &Path) {
     };
     std::fs::create_dir_all(folder).unwrap_or_else(|error| fail(&error.to_string()));
     match profile {
-        "valid" | "damaged" | "blanked" => write_random(profile, seed, count, write),
+        "valid" | "unset" | "damaged" | "blanked" => write_random(profile, seed, count, write),
         "cuts" => write_cases(cases::cuts(), count, write),
         "limits" => write_cases(cases::named(true), count, write),
         "long" => write_cases(cases::long(&mut dice_of(seed, 0), count), count, write),
@@ -49,10 +49,12 @@ fn plain_name(name: &str) -> String {
 fn write_random(profile: &str, seed: u64, count: usize, write: impl Fn(&str, &[u8])) {
     for number in 0..count {
         let mut dice = dice_of(seed, number);
-        let made = make(&Plan::random(&mut dice, None), &mut dice);
+        let mut plan = Plan::random(&mut dice, None);
+        plan.lowest |= profile == "unset";
+        let made = make(&plan, &mut dice);
         let name = format!("{profile}-{seed}-{number:05}");
         match profile {
-            "valid" => write(&name, &made.bytes),
+            "valid" | "unset" => write(&name, &made.bytes),
             "damaged" => write(&name, &damaged(&made, &mut dice)),
             _ => {
                 write(&format!("{name}-before"), &made.bytes);

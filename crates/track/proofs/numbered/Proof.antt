@@ -12,5 +12,5 @@ numbered-spec =
     (tie.spec
     (λ c κs. search needs)
     (λ c. search needs)
-    (λ c. omega (arith, c .before .from-zero .ensures))
-    (λ c. omega (arith, c .before .from-zero .ensures)))
+    (λ c. omega (arith, c .before .less-one .ensures))
+    (λ c. omega (arith, c .before .less-one .ensures)))

@@ -1,13 +1,17 @@
--- `less_one` gives the number whose next is v, which is one less, with wrapping.
+-- By the two tests.
 use borrow.Author.Needs.{needs}
-use Rattle.bin.specs.Signed.{lessOneWrapped}
+use native.Mathlib.Omega.{arith}
+use borrow.Author.Tests.{le-leb, lt-leb}
+use Rattle.format.specs.Fields.{lessOne}
 use Rattle.bin.proofs.signed.less_one.Statement.{statement}
 use Rattle.bin.proofs.signed.less_one.Tie as tie
 
 pub less-one-spec : {M : Type 1} → statement M
-unfolding lessOneWrapped
+unfolding lessOne
 less-one-spec =
     tie.close
     (tie.spec
-    (λ c κs. search needs)
-    (λ c. search needs))
+    (λ c. simp (le-leb _ _ (c .if1 .taken)))
+    (λ c. simp (lt-leb _ _ (c .before .if1 .left)) (omega arith))
+    (λ c. search needs)
+    (λ c. simp (lt-leb _ _ (c .before .if1 .left))))

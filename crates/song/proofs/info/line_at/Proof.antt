@@ -13,4 +13,4 @@ line-at-spec =
     (λ c κs. search needs)
     (λ c κs. search needs)
     (λ c κs. search needs)
-    (λ c. rw (c .before .from-zero .ensures) (search reading depth 10)))
+    (λ c. rw (c .before .less-one .ensures) (search reading depth 10)))
