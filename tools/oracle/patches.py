@@ -32,7 +32,7 @@ GP5 = [
     (1, "let name = name.trim().to_string();", "assert_eq!(name.trim(), &*name);",
      "the second trim of a trimmed text changes nothing; it would drop the range"),
 
-    # Outside the domain document 01 decides (in the mode --plain these are what they replace).
+    # Outside the domain documents 01 and 02 decide (in the mode --plain these are what they replace).
     (3, "self.bin.i32()? - 1", "crate::domain::less_one(self.bin.i32()?)",
      "lyric track, port and channel at the lowest i32"),
     (1, "start - 1", "crate::domain::less_one(start)",

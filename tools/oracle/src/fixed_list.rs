@@ -237,7 +237,7 @@ fn is_read(bytes: &[u8]) -> bool {
 /// The words of a record: see tests/README.md.
 fn record(number: usize, input: &[u8]) -> Vec<u32> {
     let verdict = judge(input, None);
-    let told = verdict.refusal().expect("no panic in document 01's mode");
+    let told = verdict.refusal().expect("no panic in the documents' mode");
     let mut words = vec![
         number,
         input.len(),

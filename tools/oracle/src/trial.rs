@@ -97,12 +97,12 @@ impl Trial {
         }
     }
 
-    /// Reads as document 01 says, and as the Rust does: they agree but outside the domain, where
+    /// Reads as the documents say, and as the Rust does: they agree but outside the domain, where
     /// the Rust panics as document 01 says or reads on past the limit.
     fn both(&mut self, name: &str, data: &[u8]) -> Verdict {
         self.files += 1;
         let verdict = judge(data, None);
-        let told = verdict.refusal().expect("no panic in document 01's mode");
+        let told = verdict.refusal().expect("no panic in the documents' mode");
         let plain = judge_plain(data);
         match &plain {
             Verdict::Panicked(panic) if panic.place == "domain.rs" => {
@@ -113,7 +113,7 @@ impl Trial {
             }
             _ if told.outcome == 5 => {}
             _ if dump(data, &plain) != dump(data, &verdict) => {
-                self.find(name, "plain and document 01 differ")
+                self.find(name, "plain and the documents differ")
             }
             _ => {}
         }
