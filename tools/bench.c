@@ -2,7 +2,7 @@
    bytes used: for tools/bench and tools/long-files, linked with the crate `export`. The second argument says how:
      (none)  into tables of the rooms that the file needs, lent once
      user    as a caller does it each time: asks for the rooms, allocates the tables, reads, frees them
-     words   as with none, and writes all fourteen words that are said of the reading
+     words   as with none, and writes all seventeen words that are said of the reading
      stack   once, and writes how many bytes of the stack the reading touches */
 #include <stdint.h>
 #include <stdio.h>
@@ -12,7 +12,7 @@ void fungusleigh_read(const uint8_t *data, size_t bytes, uint32_t *bars, size_t,
                       uint32_t *rows, size_t, uint32_t *members, size_t, uint32_t *points, size_t, uint32_t *texts,
                       size_t, uint32_t *said, size_t);
 
-enum { TABLES = 6, SAID = 14, OUTCOME = 0, USED = 1, ROOMS = 8, NO_ROOM = 6 };
+enum { TABLES = 6, SAID = 17, OUTCOME = 0, USED = 1, ROOMS = 8, NO_ROOM = 6 };
 enum { STACK = 4 << 20, EDGE = 4096, MARK = 0xA5 };
 
 static const size_t entry[TABLES] = {16, 16, 28, 8, 2, 4}; /* words of an entry: docs/TABLES.md */

@@ -44,6 +44,12 @@ GP5 = [
      "crate::domain::in_limit(self.data, end)?; let slice = self.data.get(self.pos..end).ok_or_else(truncated)?;",
      "refusal 5, before the bytes are sought"),
 
+    # Where the count went wrong (document 02, k): the position before its four bytes were read.
+    (1, "let value = self.i32()?;\n        usize::try_from(value)", "let at = self.pos; let value = self.i32()?;\n        usize::try_from(value)",
+     "the offset of a count"),
+    (1, 'format!("Guitar Pro {what} count {value} is out of range")', 'format!("Guitar Pro {what} count {value} is out of range at {at}")',
+     "the offset of a count that is refused"),
+
     # Handing out what the answer and the tables hold but Score does not.
     (1, "version: u16,", "version: u16, rooms: acorde_core::Rooms,",
      "room for the two counts below"),

@@ -7,7 +7,8 @@ use mathlib.Core.List.{List}
 use lib.Dec.{ltb}
 use borrow.Author.Tests.{le-leb, lt-ltb}
 use Rattle.format.specs.Prog.{ok, run, bind, whenLe, has}
-use Rattle.format.specs.Fields.{u8, u16, skip, NEGATIVE, intByteStringPast}
+use Rattle.format.specs.Count.{NEGATIVE}
+use Rattle.format.specs.Fields.{u8, u16, skip, intByteStringPast}
 use Rattle.format.specs.Alike.{Kept}
 use Rattle.note.specs.Optional.{optional}
 use Rattle.beat.specs.Mix.{sign, tempoName, duration, tempoEnd, mixFlags, wah, mixStrings}

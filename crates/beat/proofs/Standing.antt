@@ -6,7 +6,8 @@ use mathlib.Core.List.{List}
 use lib.Dec.{ltb}
 use Rattle.format.specs.Text.{TextRead}
 use Rattle.format.specs.Prog.{Prog, has}
-use Rattle.format.specs.Fields.{u8, u32, NEGATIVE, fixedString, intByteString}
+use Rattle.format.specs.Count.{NEGATIVE}
+use Rattle.format.specs.Fields.{u8, u32, fixedString, intByteString}
 use Rattle.format.specs.Passed.{Reads, Has}
 use Rattle.format.proofs.Standing.{somewhere, reads-parts, reads-ret, reads-le, reads-gt, reads-eq, reads-ne, reads-bits}
 use Rattle.note.specs.Optional.{moreFlags}

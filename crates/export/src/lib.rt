@@ -8,7 +8,7 @@ use model::Answer;
 use model::answers;
 
 // The words of what is said of a reading.
-const SAID: usize = 14;
+const SAID: usize = 17;
 
 fn said_words(answer: Answer) -> [u32; SAID]
     ensures { λ r. ⌜ r ≡ saidWords answer ⌝ }
@@ -29,11 +29,15 @@ fn said_words(answer: Answer) -> [u32; SAID]
         answer.rooms.members,
         answer.rooms.points,
         answer.rooms.texts,
+        answers::outcome_which(outcome),
+        bin::signed::from_i32(answers::outcome_value(outcome)),
+        tables::low(answers::outcome_offset(outcome)),
     ]
 }
 
 // In C each slice is a pointer and a length, in words but for the bytes of the file. `said` gets
-// fourteen words, or as many as it has: the outcome, the bytes used, the six counts and the six rooms.
+// seventeen words, or as many as it has: the outcome, the bytes used, the six counts and the six rooms; of a count that is
+// refused which it is, its value and its offset.
 #[no_mangle]
 pub extern "C" fn fungusleigh_read(
     data: &[u8],

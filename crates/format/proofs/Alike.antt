@@ -4,13 +4,16 @@ use native.Mathlib.Omega.{arith}
 use native.Mathlib.Decide.{decLe, decLt}
 use mathlib.Core.Logic.{inl, inr}
 use mathlib.Core.Path.{_≡_, refl, ap, sym, _∙_}
+use mathlib.Core.Bool.{Bool, true, false}
 use mathlib.Core.List.{List}
 use lib.ListN.{length, getD, take, drop, length-take, length-drop}
 use lib.Seq.{ext-getD, getD-take, getD-drop}
 use Rattle.format.specs.Text.{textOf}
-use Rattle.format.specs.Prog.{Prog, ret, refuse, byte, pass, text, ok, run}
-use Rattle.format.specs.Alike.{Alike, Same}
-use Rattle.format.proofs.Run.{run-ret, run-refuse, byte-goes, byte-ends, pass-goes, pass-ends, text-goes, text-ends, byte-ok, pass-ok, text-ok, run-within}
+use Rattle.format.specs.Count.{over, little, wordAt}
+use Rattle.format.specs.Prog.{Prog, ret, refuse, byte, pass, text, counted, ok, run}
+use Rattle.format.specs.Alike.{Alike, Kept, Same}
+use Rattle.format.proofs.Run.{run-ret, run-refuse, byte-goes, byte-ends, pass-goes, pass-ends, text-goes, text-ends, count-goes, count-over, count-ends}
+use Rattle.format.proofs.Run.{byte-ok, pass-ok, text-ok, count-ok, run-within}
 
 le-of : {a b : ℕ} → (a < b → ⊥) → b ≤ a
 le-of h = omega arith
@@ -36,6 +39,18 @@ alike-run (text n k) s t at h = elim (decLe (at + n) (length s)) [
       ∙ rw (h .1 d .0) (sym (text-goes t at n k (h .0 .0 d)))
   | no d ↦ text-ends s at n k (omega arith) ∙ sym (text-ends t at n k (lt-of (λ x. d (h .0 .1 x))))
 ]
+alike-run (counted c k) s t at h = elim (decLe (at + 4) (length s)) [
+  | yes d ↦ judged d (h .0 .0 d) (h .1 d .0) (alike-run (k (wordAt s at)) s t (at + 4) (h .1 d .1)) (over c (wordAt s at)) refl
+  | no d ↦ count-ends s at c k (omega arith) ∙ sym (count-ends t at c k (lt-of (λ x. d (h .0 .1 x))))
+]
+  where
+    judged : at + 4 ≤ length s → at + 4 ≤ length t → wordAt s at ≡ wordAt t at
+        → run (k (wordAt s at)) s (at + 4) ≡ run (k (wordAt s at)) t (at + 4)
+        → (b : Bool) → over c (wordAt s at) ≡ b → run (counted c k) s at ≡ run (counted c k) t at
+    judged d l e r true o =
+        count-over s at c k d o ∙ rw e (sym (count-over t at c k l (sym (ap (over c) e) ∙ o)))
+    judged d l e r false o =
+        count-goes s at c k d o ∙ r ∙ rw e (sym (count-goes t at c k l (sym (ap (over c) e) ∙ o)))
 
 same-part : (s t : List ℕ) (at n : ℕ) → at + n ≤ length s → at + n ≤ length t → ((i : ℕ) → (at ≤ i) × (i < at + n) → getD s i 0 ≡ getD t i 0) → take n (drop at s) ≡ take n (drop at t)
 same-part s t at n d e h =
@@ -65,7 +80,47 @@ same-alike (text m k) s t at n a h e l g =
         same-alike (k u) s t (at + m) n a (w .0) (w .1) l (λ i x. g i (inr x)),
       ),
     )
+same-alike (counted c k) s t at n a h e l g =
+    let w = count-ok s at n a c k e in
+    let u = wordAt s at in
+    let v = run-within (k u) s (at + 4) n a (w .0) (w .2) in (
+      ((λ _. omega arith), (λ _. w .0)),
+      λ d. (
+        ap little (same-part s t at 4 (w .0) (omega arith) (λ i x. g i (inl x))),
+        same-alike (k u) s t (at + 4) n a (w .0) (w .2) l (λ i x. g i (inr x)),
+      ),
+    )
 
 -- so it is read to the same answer and the same end
 pub same-run : {A : Type 0} (p : Prog A) (s t : List ℕ) (n : ℕ) (a : A) → run p s 0 ≡ ok a n → n ≤ length t → Same p s t 0 → run p t 0 ≡ ok a n
 same-run p s t n a e l g = sym (alike-run p s t 0 (same-alike p s t 0 n a (omega arith) e l g)) ∙ e
+
+-- a kept position of what was read is one of the bytes used
+pub kept-used : {A : Type 0} (p : Prog A) (s : List ℕ) (at n i : ℕ) (a : A) → at ≤ length s → run p s at ≡ ok a n
+    → Kept p s at i → i < n
+kept-used (ret x) s at n i a h e k = absurd k
+kept-used (refuse r) s at n i a h e k = absurd k
+kept-used (byte f) s at n i a h e (inl k) =
+    let w = byte-ok s at n a f e in
+    let v = run-within (f (getD s at 0)) s (at + 1) n a (omega arith) (w .1) in
+    omega arith
+kept-used (byte f) s at n i a h e (inr k) =
+    let w = byte-ok s at n a f e in
+    kept-used (f (getD s at 0)) s (at + 1) n i a (omega arith) (w .1) k
+kept-used (pass m p) s at n i a h e k =
+    let w = pass-ok s at n a m p e in
+    kept-used p s (at + m) n i a (w .0) (w .1) k
+kept-used (text m f) s at n i a h e (inl k) =
+    let w = text-ok s at n a m f e in
+    let v = run-within (f (textOf at (take m (drop at s)))) s (at + m) n a (w .0) (w .1) in
+    omega arith
+kept-used (text m f) s at n i a h e (inr k) =
+    let w = text-ok s at n a m f e in
+    kept-used (f (textOf at (take m (drop at s)))) s (at + m) n i a (w .0) (w .1) k
+kept-used (counted c f) s at n i a h e (inl k) =
+    let w = count-ok s at n a c f e in
+    let v = run-within (f (wordAt s at)) s (at + 4) n a (w .0) (w .2) in
+    omega arith
+kept-used (counted c f) s at n i a h e (inr k) =
+    let w = count-ok s at n a c f e in
+    kept-used (f (wordAt s at)) s (at + 4) n i a (w .0) (w .2) k

@@ -9,9 +9,10 @@ use mathlib.Core.List.{List, _∷_, _++_, append-assoc}
 use lib.ListN.{length, getD, take, drop, length-append, length-take, length-drop, take-append-drop}
 use lib.Seq.{slice, slice-cons, slice-empty, drop-drop, drop-at, take-at, drop-cons, length-take-le}
 use Rattle.format.specs.Text.{textOf}
-use Rattle.format.specs.Prog.{Prog, ret, refuse, byte, pass, text, ok, run}
-use Rattle.format.specs.Fits.{Fits, fit-ret, fit-byte, fit-pass, fit-text, Begins}
-use Rattle.format.proofs.Run.{part-take, ret-ok, refuse-ok, byte-ok, pass-ok, text-ok, run-ret, byte-goes, pass-goes, text-goes, run-within}
+use Rattle.format.specs.Count.{over, little, wordAt}
+use Rattle.format.specs.Prog.{Prog, ret, refuse, byte, pass, text, counted, ok, run}
+use Rattle.format.specs.Fits.{Fits, fit-ret, fit-byte, fit-pass, fit-text, fit-count, Begins}
+use Rattle.format.proofs.Run.{part-take, ret-ok, refuse-ok, byte-ok, pass-ok, text-ok, count-ok, run-ret, byte-goes, pass-goes, text-goes, count-goes, run-within}
 
 part-length : (at m : ℕ) (s : List ℕ) → at + m ≤ length s → length (take m (drop at s)) ≡ m
 part-length at m s h = simp (length-take, length-drop) (omega arith)
@@ -43,6 +44,11 @@ run-fits (text m k) s at n a h e =
     let v = run-within (k t) s (at + m) n a (omega arith) (w .1) in
     rw (slice-split at m n s (v .0))
     (fit-text (take m (drop at s)) (part-length at m s (w .0)) (run-fits (k t) s (at + m) n a (omega arith) (w .1)))
+run-fits (counted c k) s at n a h e =
+    let w = count-ok s at n a c k e in
+    let v = run-within (k (wordAt s at)) s (at + 4) n a (w .0) (w .2) in
+    rw (slice-split at 4 n s (v .0))
+    (fit-count (take 4 (drop at s)) (part-length at 4 s (w .0)) (w .1) (run-fits (k (wordAt s at)) s (at + 4) n a (w .0) (w .2)))
 
 -- ---- what fits is read: l stands at a position of s, with post after it
 Stands : List ℕ → ℕ → List ℕ → List ℕ → Type 0
@@ -74,6 +80,10 @@ fits-run (fit-pass {p = p} {at = at} {n = n} u {t = t} {a = a} g f) s post h =
 fits-run (fit-text {k = k} {at = at} {n = n} u {t = t} {a = a} g f) s post h =
     let w = stands-part s at n u t post g h in
     text-goes s at n k (w .0) ∙ rw (w .1) (fits-run f s post (w .2) ∙ ap (λ (m : ℕ). ok a m) (omega (arith, length-append u t)))
+fits-run (fit-count {c = c} {k = k} {at = at} u {t = t} {a = a} g o f) s post h =
+    let w = stands-part s at 4 u t post g h in
+    count-goes s at c k (w .0) (ap (λ (l : List ℕ). over c (little l)) (w .1) ∙ o)
+    ∙ rw (w .1) (fits-run f s post (w .2) ∙ ap (λ (m : ℕ). ok a m) (omega (arith, length-append u t)))
 
 -- a program reads a file exactly where a beginning of it fits
 pub reads : {A : Type 0} (p : Prog A) (s : List ℕ) (a : A) (n : ℕ) → run p s 0 ≡ ok a n ↔ Begins p s a n

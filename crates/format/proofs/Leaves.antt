@@ -4,18 +4,24 @@ use native.Mathlib.Omega.{arith}
 use native.Mathlib.Numerals.{add-one}
 use native.Mathlib.Nat.{add-zero}
 use mathlib.Core.Path.{_≡_, refl, ap, _∙_}
-use native.Mathlib.Decide.{decLt}
-use mathlib.Core.List.{List, [], _∷_}
+use native.Mathlib.Decide.{decLe, decLt}
+use mathlib.Core.Bool.{true, false, or-true}
+use mathlib.Core.List.{List}
 use lib.ListN.{length, getD, take, drop}
 use lib.Seq.{drop-cons}
-use Rattle.format.specs.declared.Stop.the-variants.{Ends}
+use lib.Dec.{leb}
+use borrow.Author.Tests.{le-ltb, lt-ltb, le-leb, lt-leb}
+use Rattle.format.specs.declared.Counted.{Counted}
+use Rattle.format.specs.declared.Stop.{Stop}
+use Rattle.format.specs.declared.Stop.the-variants.{Ends, Count}
 use Rattle.format.specs.declared.Place.the-variants.{At, Stopped}
 use Rattle.format.specs.declared.Place.{Place}
+use Rattle.format.specs.Count.{NEGATIVE, limitOf, over, little, wordAt}
 use Rattle.format.specs.Prog.{Prog, ret, ok, stopped, run, bind}
-use Rattle.format.specs.Place.{Gives}
-use Rattle.format.specs.Fields.{u8, number, u16, u32, skip}
-use Rattle.format.proofs.Rules.{starting, stopping, returned-at}
-use Rattle.format.proofs.Run.{run-bind, run-ret, byte-goes, byte-ends, pass-goes, pass-ends}
+use Rattle.format.specs.Place.{reached, Reaches, Gives}
+use Rattle.format.specs.Fields.{u8, number, u16, u32, skip, count}
+use Rattle.format.proofs.Rules.{starting, stopping, returned, returned-at}
+use Rattle.format.proofs.Run.{run-bind, run-ret, byte-goes, byte-ends, pass-goes, pass-ends, count-goes, count-over, count-ends, clash}
 
 -- what a leaf returns: from a known position, to another or to the end of the bytes
 came : {A : Type 0} {p : Prog A} {none a : A} {s : List ℕ} {from : Place} {at n : ℕ} → from ≡ At at → run p s at ≡ ok a n → Gives p none s from a (At n)
@@ -48,11 +54,6 @@ module _ {s : List ℕ} {from : Place} {at : ℕ} (e : from ≡ At at) where
   skip-ends n h = ended e (pass-ends s at n (ret tt) h)
 
 -- ---- numbers of every width
--- bytes as a number, the least first
-unfoldable pub little : List ℕ → ℕ
-little [] = 0
-little (b ∷ bs) = b + 256 * little bs
-
 little-next : (s : List ℕ) (at next w : ℕ) → next ≡ at + 1 → at < length s → little (take (suc w) (drop at s)) ≡ getD s at 0 + 256 * little (take w (drop next s))
 unfolding little
 little-next s at next w e h = rw (e, add-one at, drop-cons s at 0 h)
@@ -110,3 +111,57 @@ module _ {s : List ℕ} {from : Place} {at : ℕ} (e : from ≡ At at) where
 
   pub u32-ends : length s < at + 4 → Gives u32 0 s from 0 (Stopped Ends)
   u32-ends h = ended e (number-short 3 s at h)
+
+-- ---- a count, read as a number and then judged
+module _ (c : Counted) (v : ℕ) where
+  pub over-negative : NEGATIVE ≤ v → over c v ≡ true
+  unfolding over
+  over-negative h = simp (le-leb NEGATIVE v h)
+
+  pub over-limit : limitOf c < v → over c v ≡ true
+  unfolding over
+  over-limit h = rw (lt-ltb (limitOf c) v h) (or-true (leb NEGATIVE v))
+
+  pub not-over : v < NEGATIVE → v ≤ limitOf c → over c v ≡ false
+  unfolding over
+  not-over h k = rw (lt-leb NEGATIVE v h, le-ltb (limitOf c) v k)
+
+module _ (s : List ℕ) (at : ℕ) where
+  word-read : {v n : ℕ} → run u32 s at ≡ ok v n → (at + 4 ≤ length s) × (wordAt s at ≡ v) × (at + 4 ≡ n)
+  word-read e = elim (decLe (at + 4) (length s)) [
+    | yes d ↦ let w = run-number 4 s at d in (d, cc, cc)
+    | no d ↦ let w = number-short 3 s at (omega arith) in clash (cc)
+  ]
+
+  word-cut : {x : Stop} → run u32 s at ≡ stopped x → (length s < at + 4) × (Ends ≡ x)
+  word-cut e = elim (decLe (at + 4) (length s)) [
+    | yes d ↦ let w = run-number 4 s at d in clash (cc)
+    | no d ↦ let w = number-short 3 s at (omega arith) in (omega arith, cc)
+  ]
+
+module _ {s : List ℕ} {from same next : Place} {at v : ℕ} (c : Counted) (e : from ≡ At at) (d : same ≡ At at) (read : Reaches u32 s same v next) where
+  word : run u32 s at ≡ reached v next
+  word = rw d at (read .reaches)
+
+  pub count-cut : {x : Stop} → next ≡ Stopped x → Gives (count c) 0 s from 0 next
+  unfolding count
+  count-cut g =
+      let w = word-cut s at (rw g at word) in
+      stopping (starting e (record { reaches = count-ends s at c (λ x. ret x) (w .0) ∙ rw (g, w .1) }))
+
+  module _ {n : ℕ} (g : next ≡ At n) where
+    pub count-read : over c v ≡ false → Gives (count c) 0 s from v next
+    unfolding count
+    count-read o =
+        let w = word-read s at (rw g at word) in
+        returned g
+        (starting e
+        (record { reaches = count-goes s at c (λ x. ret x) (w .0) (rw (w .1) o) ∙ run-ret s (at + 4) (wordAt s at) ∙ rw (g, w .1, w .2) }))
+
+    pub count-refused : over c v ≡ true → Gives (count c) 0 s from 0 (Stopped (Count c v at))
+    unfolding count
+    count-refused o =
+        let w = word-read s at (rw g at word) in
+        stopping
+        (starting e
+        (record { reaches = count-over s at c (λ x. ret x) (w .0) (rw (w .1) o) ∙ rw (w .1) }))

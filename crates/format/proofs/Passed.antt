@@ -9,11 +9,12 @@ use mathlib.Core.List.{List}
 use lib.ListN.{getD, take, drop}
 use borrow.Author.Tests.{le-leb}
 use Rattle.format.specs.Text.{textOf}
-use Rattle.format.specs.Prog.{Prog, ret, refuse, byte, pass, text, Res, ok, stopped, run, bind, turns, whenLe}
+use Rattle.format.specs.Count.{wordAt}
+use Rattle.format.specs.Prog.{Prog, ret, refuse, byte, pass, text, counted, Res, ok, stopped, run, bind, turns, whenLe}
 use Rattle.format.specs.Alike.{Kept}
-use Rattle.format.proofs.Run.{andThen, run-bind, clash, ret-ok, refuse-ok, byte-ok, pass-ok, text-ok}
+use Rattle.format.proofs.Run.{andThen, run-bind, clash, ret-ok, refuse-ok, byte-ok, pass-ok, text-ok, count-ok}
 use Rattle.format.specs.Passed.{Skips, Skipped, Stands, itself, first, then}
-use Rattle.format.specs.Passed.{here, past, after-byte, after-text}
+use Rattle.format.specs.Passed.{here, past, after-byte, after-text, after-count}
 
 -- ---- kept, or passed over
 
@@ -26,6 +27,8 @@ kept-from (byte f) s at i (inr k) = omega (arith, kept-from (f (getD s at 0)) s 
 kept-from (pass n p) s at i k = omega (arith, kept-from p s (at + n) i k)
 kept-from (text n f) s at i (inl k) = omega arith
 kept-from (text n f) s at i (inr k) = omega (arith, kept-from (f (textOf at (take n (drop at s)))) s (at + n) i k)
+kept-from (counted c f) s at i (inl k) = omega arith
+kept-from (counted c f) s at i (inr k) = omega (arith, kept-from (f (wordAt s at)) s (at + 4) i k)
 
 -- so does what is passed over
 skips-from : {A : Type 0} {s : List ℕ} {k n : ℕ} {p : Prog A} {at : ℕ} → Skips s k n p at → at ≤ k
@@ -33,6 +36,7 @@ skips-from here = omega arith
 skips-from (past h) = omega (arith, skips-from h)
 skips-from (after-byte h) = omega (arith, skips-from h)
 skips-from (after-text h) = omega (arith, skips-from h)
+skips-from (after-count h) = omega (arith, skips-from h)
 
 -- no byte that is passed over is kept
 pub skipped-not-kept : {A : Type 0} {s : List ℕ} {k n : ℕ} {p : Prog A} {at : ℕ}
@@ -43,6 +47,8 @@ skipped-not-kept (after-byte h) i a b (inl e) = omega (arith, skips-from h)
 skipped-not-kept (after-byte h) i a b (inr x) = skipped-not-kept h i a b x
 skipped-not-kept (after-text h) i a b (inl e) = omega (arith, skips-from h)
 skipped-not-kept (after-text h) i a b (inr x) = skipped-not-kept h i a b x
+skipped-not-kept (after-count h) i a b (inl e) = omega (arith, skips-from h)
+skipped-not-kept (after-count h) i a b (inr x) = skipped-not-kept h i a b x
 
 -- and of a program that was read to its end every byte that is not passed over is kept
 either : {A B X Y : Type 0} {s : List ℕ} {p : Prog A} {q : Prog B} {at from i : ℕ} → (X → Y)
@@ -69,6 +75,11 @@ kept-or-skipped (text m f) s at n i a e l h = elim (decLt i (at + m)) [
   | no d ↦ either inr (λ _ _. after-text)
       (kept-or-skipped (f (textOf at (take m (drop at s)))) s (at + m) n i a (text-ok s at n a m f e .1) (omega arith) h)
 ]
+kept-or-skipped (counted c f) s at n i a e l h = elim (decLt i (at + 4)) [
+  | yes d ↦ inl (inl (l, d))
+  | no d ↦ either inr (λ _ _. after-count)
+      (kept-or-skipped (f (wordAt s at)) s (at + 4) n i a (count-ok s at n a c f e .2) (omega arith) h)
+]
 
 -- ---- one program after another
 
@@ -80,6 +91,7 @@ skips-first f here = here
 skips-first f (past h) = past (skips-first f h)
 skips-first f (after-byte h) = after-byte (skips-first f h)
 skips-first f (after-text h) = after-text (skips-first f h)
+skips-first f (after-count h) = after-count (skips-first f h)
 
 -- and what the second does, from where the first ended
 pub skips-after : {A B : Type 0} {s : List ℕ} {k n : ℕ} (p : Prog A) (at m : ℕ) (a : A) (f : A → Prog B)
@@ -92,6 +104,8 @@ skips-after {s = s} (byte g) at m a f e h =
 skips-after {s = s} (pass l p) at m a f e h = past (skips-after p (at + l) m a f (pass-ok s at m a l p e .1) h)
 skips-after {s = s} (text l g) at m a f e h =
     after-text (skips-after (g (textOf at (take l (drop at s)))) (at + l) m a f (text-ok s at m a l g e .1) h)
+skips-after {s = s} (counted c g) at m a f e h =
+    after-count (skips-after (g (wordAt s at)) (at + 4) m a f (count-ok s at m a c g e .2) h)
 
 -- what the first keeps, both do, and what the second keeps
 keeps-first : {A B : Type 0} (p : Prog A) (f : A → Prog B) (s : List ℕ) (at i : ℕ) → Kept p s at i → Kept (bind p f) s at i
@@ -103,6 +117,8 @@ keeps-first (byte g) f s at i (inr k) = inr (keeps-first (g (getD s at 0)) f s (
 keeps-first (pass n p) f s at i k = keeps-first p f s (at + n) i k
 keeps-first (text n g) f s at i (inl k) = inl k
 keeps-first (text n g) f s at i (inr k) = inr (keeps-first (g (textOf at (take n (drop at s)))) f s (at + n) i k)
+keeps-first (counted c g) f s at i (inl k) = inl k
+keeps-first (counted c g) f s at i (inr k) = inr (keeps-first (g (wordAt s at)) f s (at + 4) i k)
 
 keeps-after : {A B : Type 0} (p : Prog A) (s : List ℕ) (at m i : ℕ) (a : A) (f : A → Prog B)
     → run p s at ≡ ok a m → Kept (f a) s m i → Kept (bind p f) s at i
@@ -113,6 +129,7 @@ keeps-after (byte g) s at m i a f e k = inr (keeps-after (g (getD s at 0)) s (at
 keeps-after (pass n p) s at m i a f e k = keeps-after p s (at + n) m i a f (pass-ok s at m a n p e .1) k
 keeps-after (text n g) s at m i a f e k =
     inr (keeps-after (g (textOf at (take n (drop at s)))) s (at + n) m i a f (text-ok s at m a n g e .1) k)
+keeps-after (counted c g) s at m i a f e k = inr (keeps-after (g (wordAt s at)) s (at + 4) m i a f (count-ok s at m a c g e .2) k)
 
 -- ---- a field, where it stands
 

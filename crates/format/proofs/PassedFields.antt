@@ -4,7 +4,7 @@ use native.Mathlib.Omega.{arith}
 use mathlib.Core.Path.{_≡_, refl}
 use mathlib.Core.List.{List}
 use lib.ListN.{getD}
-use Rattle.format.specs.Prog.{Prog, ret, refuse, byte, pass, text, ok, run, bind}
+use Rattle.format.specs.Prog.{Prog, ret, refuse, byte, pass, text, counted, ok, run, bind}
 use Rattle.format.specs.Fields.{u8, number, u32, skip, textBytes, MAXSTRING, stringPast, fixedString, lessOne}
 use Rattle.format.specs.Fields.{intByteString, intByteStringPast, intByteStringUnusedPast}
 use Rattle.format.proofs.Run.{ret-ok, pass-ok}
@@ -20,6 +20,7 @@ bind-bind (refuse r) g f = refl
 bind-bind (byte k) g f = λ i. byte (λ b. bind-bind (k b) g f i)
 bind-bind (pass n p) g f = λ i. pass n (bind-bind p g f i)
 bind-bind (text n k) g f = λ i. text n (λ t. bind-bind (k t) g f i)
+bind-bind (counted c k) g f = λ i. counted c (λ v. bind-bind (k v) g f i)
 
 -- ---- what a field of known width is followed by
 pub next-byte : {A : Type 0} {s : List ℕ} {k n at : ℕ} (f : ℕ → Prog A)

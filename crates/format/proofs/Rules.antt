@@ -9,7 +9,7 @@ use borrow.Author.Tests.{le-leb, lt-leb, eq-eqb, ne-eqb, not-true, not-false}
 use Rattle.format.specs.declared.Stop.{Stop}
 use Rattle.format.specs.declared.Place.{Place}
 use Rattle.format.specs.declared.Place.the-variants.{At, Stopped}
-use Rattle.format.specs.Prog.{Prog, bind, ret, refuse, turns, whenLe, whenEq, whenBits}
+use Rattle.format.specs.Prog.{Prog, Refusal, stopOf, bind, ret, refuse, turns, whenLe, whenEq, whenBits}
 use Rattle.format.specs.Place.{resume, reached, Reaches, Gives, Leads}
 use Rattle.format.proofs.Run.{run-bind, run-ret, run-refuse, clash}
 
@@ -30,8 +30,8 @@ resume-ret a s (Stopped x) = refl
 pub done : {A : Type 0} {a : A} {s : List ℕ} {at : Place} → Reaches (ret a) s at a at
 done {a = a} {s = s} {at = at} = record { reaches = resume-ret a s at }
 
-pub refusing : {A : Type 0} {s : List ℕ} {at : Place} {n : ℕ} {r : Stop} {a : A} → at ≡ At n → Reaches (refuse r) s at a (Stopped r)
-refusing {s = s} {n = n} {r = r} e = record { reaches = rw e (run-refuse s n r) }
+pub refusing : {A : Type 0} {s : List ℕ} {at : Place} {n : ℕ} {r : Refusal} {x : Stop} {a : A} → at ≡ At n → stopOf r ≡ x → Reaches (refuse r) s at a (Stopped x)
+refusing {s = s} {n = n} {r = r} e f = record { reaches = rw (e, ← f) (run-refuse s n r) }
 
 -- a place that is known to be a position
 pub starting : {A : Type 0} {p : Prog A} {s : List ℕ} {from to : Place} {a : A} {n : ℕ} → from ≡ At n → Reaches p s (At n) a to → Reaches p s from a to

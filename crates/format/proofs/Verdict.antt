@@ -1,18 +1,21 @@
 -- What the laws of a run say of a whole file, from which demand 3 follows for every format.
-use Prim.Native.Nat.{ℕ, _+_, _-_, _≤_, _<_}
+use Prim.Native.Nat.{ℕ, zero, suc, _+_, _-_, _≤_, _<_}
 use native.Mathlib.Omega.{arith}
 use native.Mathlib.Decide.{decLe}
 use mathlib.Core.Logic.{_↔_}
 use mathlib.Core.Path.{_≡_, sym, ap, _∙_}
-use mathlib.Core.List.{List, _++_, append-assoc}
-use lib.ListN.{length, take, drop, length-append, length-take, take-append-drop}
-use lib.Seq.{take-append-add}
+use mathlib.Core.List.{List, [], _∷_, _++_, append-assoc}
+use lib.ListN.{length, getD, take, drop, length-append, length-take, take-append-drop}
+use lib.Seq.{take-all, take-append-add}
+use lib.Dec.{leb}
 use borrow.Author.Tests.{le-leb, lt-leb}
 use Rattle.format.specs.declared.Stop.{Stop}
 use Rattle.format.specs.declared.Stop.the-variants as S
+use Rattle.format.specs.Text.{pick}
 use Rattle.format.specs.Prog.{Prog, Res, ok, stopped, run}
 use Rattle.format.specs.Fits.{Begins}
 use Rattle.format.specs.Verdict.{LIMIT, Verdict, whole, truncated, tooLong, stopVerdict, asVerdict, upTo, verdict}
+use Rattle.format.specs.Yields.{Bytes}
 use Rattle.format.proofs.Run.{run-cut, run-within, clash}
 use Rattle.format.proofs.Fits.{reads}
 
@@ -24,12 +27,42 @@ pub verdict-long : {A : Type 0} (p : Prog A) (s : List ℕ) → LIMIT < length s
 unfolding verdict
 verdict-long p s h = simp (lt-leb _ _ h)
 
+-- what is read of a file of any size: no more than n of its bytes, and all of them where there are no more
+pub upto-within : (n : ℕ) (s : List ℕ) → length (upTo n s) ≤ n
+unfolding upTo
+upto-within n s = omega (arith, length-take n s)
+
+pub upto-all : (n : ℕ) (s : List ℕ) → length s ≤ n → upTo n s ≡ s
+unfolding upTo
+upto-all n s h = take-all n s h
+
+pub upto-bytes : (n : ℕ) (s : List ℕ) → Bytes s → Bytes (upTo n s)
+unfolding upTo
+upto-bytes n s h = λ i. go n s i h
+  where
+    go : (n : ℕ) (s : List ℕ) (i : ℕ) → Bytes s → getD (take n s) i 0 < 256
+    go zero s i h = omega arith
+    go (suc n) [] i h = omega arith
+    go (suc n) (x ∷ xs) zero h = h 0
+    go (suc n) (x ∷ xs) (suc i) h = go n xs i (λ j. h (suc j))
+
+-- what it is that the bytes end: of a file no longer than the limit, that the file ends
+abbrev pub endOf : {A : Type 0} → List ℕ → Verdict A
+endOf s = pick (leb (length s) LIMIT) truncated tooLong
+
+-- the verdict of a file of any size is that of what may be read of it
+pub verdict-upto : {A : Type 0} (p : Prog A) (s : List ℕ) → verdict p s ≡ asVerdict (endOf s) (run p (upTo LIMIT s) 0)
+verdict-upto p s = elim (decLe (length s) LIMIT) [
+  | yes h ↦ rw (le-leb (length s) LIMIT h, upto-all LIMIT s h) (verdict-short p s h)
+  | no h ↦ rw (lt-leb (length s) LIMIT (omega arith)) (verdict-long p s (omega arith))
+]
+
 -- no stop is a whole file
 never-whole : {A X : Type 0} (o : Verdict A) (x : Stop) (a : A) (n : ℕ) → (o ≡ whole a n → ⊥) → stopVerdict o x ≡ whole a n → X
 never-whole o S.Ends a n d e = absurd (d e)
 never-whole o S.Text a n d e = clash (cc)
 never-whole o S.Version a n d e = clash (cc)
-never-whole o (S.Count w v) a n d e = clash (cc)
+never-whole o (S.Count w v i) a n d e = clash (cc)
 never-whole o S.Empty a n d e = clash (cc)
 
 was-ok : {A : Type 0} (o : Verdict A) (x : Res A) (a : A) (n : ℕ) → (o ≡ whole a n → ⊥) → asVerdict o x ≡ whole a n → x ≡ ok a n

@@ -3,19 +3,19 @@ use Prim.Native.Nat.{ℕ, zero, suc, _+_, _≤_, _<_}
 use native.Mathlib.Omega.{arith}
 use mathlib.Core.Path.{_≡_, refl, sym, _∙_}
 use mathlib.Core.List.{List}
-use mathlib.Core.Bool.{Bool, true, false}
+use mathlib.Core.Bool.{Bool, true, false, _||_}
 use lib.ListN.{length, getD, take, drop}
-use lib.Dec.{leb, eqb}
+use lib.Dec.{leb, ltb, eqb}
 use lib.Bits.{bitAnd}
-use borrow.Author.Tests.{leb-true, leb-false, eqb-true, eqb-false}
-use Rattle.format.specs.declared.Stop.{Stop}
+use borrow.Author.Tests.{leb-true, leb-false, ltb-false, eqb-true, eqb-false}
 use Rattle.format.specs.declared.Counted.{Counted}
 use Rattle.format.specs.Text.{pick, textOf, noText}
-use Rattle.format.specs.Prog.{Prog, ret, refuse, Res, ok, stopped, run, bind, turns, whenLe, whenEq, whenBits}
-use Rattle.format.specs.Fields.{u8, number, skip, textBytes, limitOf, counted, count}
+use Rattle.format.specs.Count.{NEGATIVE, limitOf, over, wordAt}
+use Rattle.format.specs.Prog.{Prog, Refusal, ret, refuse, Res, ok, stopped, run, bind, turns, whenLe, whenEq, whenBits}
+use Rattle.format.specs.Fields.{u8, number, skip, textBytes, count}
 use Rattle.format.specs.Fields.{stringOf, fixedString, intByteStringUnused, intByteString}
 use Rattle.format.specs.Yields.{Yields, Onward, Bytes, OfFile}
-use Rattle.format.proofs.Run.{andThen, run-bind, clash, ret-ok, refuse-ok, byte-ok, pass-ok, text-ok, run-within}
+use Rattle.format.proofs.Run.{andThen, run-bind, clash, ret-ok, refuse-ok, byte-ok, pass-ok, text-ok, count-ok, run-within}
 use Rattle.format.proofs.Text.{none-of-file, text-of-file}
 
 module _ {A : Type 0} {s : List ℕ} {at : ℕ} {Q : A → ℕ → Type 0} where
@@ -26,7 +26,7 @@ module _ {A : Type 0} {s : List ℕ} {at : ℕ} {Q : A → ℕ → Type 0} where
   pub yield-ret : {a : A} → Q a at → Yields s (ret a) at Q
   yield-ret {a} h = record { yields = λ l b n e. let w = ret-ok s at n b a e in rw (w .0, w .1) at h }
 
-  pub yield-refuse : {r : Stop} → Yields s (refuse r) at Q
+  pub yield-refuse : {r : Refusal} → Yields s (refuse r) at Q
   yield-refuse {r} = record { yields = λ l a n e. refuse-ok s at n a r e }
 
   pub yield-less : {p : Prog A} {R : A → ℕ → Type 0}
@@ -108,13 +108,24 @@ yield-number zero = yield-ret (omega arith)
 yield-number (suc w) =
     yield-bind _ yield-u8 (λ b m _ h. yield-bind _ (yield-number w) (λ r n _ k. yield-ret (omega arith)))
 
+second-false : (a b : Bool) → a || b ≡ false → b ≡ false
+second-false true b e = clash (cc)
+second-false false b e = e
+
 -- a count is within its limit
+pub within-limit : (which : Counted) (v : ℕ) → over which v ≡ false → v ≤ limitOf which
+unfolding over
+within-limit which v e = ltb-false _ _ (second-false (leb NEGATIVE v) (ltb (limitOf which) v) e)
+
 pub yield-count : {s : List ℕ} {at : ℕ} (which : Counted)
     → Yields s (count which) at (λ v n. (v ≤ limitOf which) × (n ≡ at + 4))
-unfolding count counted
-yield-count which =
-    yield-bind _ (yield-number 4) (λ v m _ h.
-    yield-le _ _ (λ _. yield-refuse) (λ _. yield-le _ _ (λ k. yield-ret (k, h)) (λ _. yield-refuse)))
+unfolding count
+yield-count {s} {at} which = record {
+  yields = λ l v n e.
+      let w = count-ok s at n v which (λ x. ret x) e in
+      let r = ret-ok s (at + 4) n v (wordAt s at) (w .2) in
+      (rw (r .0) at (within-limit which (wordAt s at) (w .1)), sym (r .1));
+}
 
 -- ---- strings: each text is one of the file
 pub yield-stringOf : {s : List ℕ} {at : ℕ} (n : ℕ) → Yields s (stringOf n) at (λ t _. OfFile s t)

@@ -5,9 +5,10 @@ use mathlib.Core.List.{List}
 use mathlib.Core.Logic.{_↔_, _⊎_}
 use lib.ListN.{length, getD, take, drop}
 use Rattle.format.specs.Text.{textOf}
-use Rattle.format.specs.Prog.{Prog, ret, refuse, byte, pass, text}
+use Rattle.format.specs.Count.{wordAt}
+use Rattle.format.specs.Prog.{Prog, ret, refuse, byte, pass, text, counted}
 
--- Two files are alike for a program at a position: their kept bytes and their texts are equal as far as the program goes.
+-- Two files are alike for a program at a position: their kept bytes, their texts and their counts are equal as far as the program goes.
 -- Of the bytes that are passed over, and of what comes after the end, it says nothing
 abbrev pub Alike : {A : Type 0} → Prog A → List ℕ → List ℕ → ℕ → Type 0
 Alike (ret a) s t at = Unit
@@ -16,6 +17,8 @@ Alike (byte k) s t at = (at < length s ↔ at < length t) × (at < length s → 
 Alike (pass n p) s t at = (at + n ≤ length s ↔ at + n ≤ length t) × (at + n ≤ length s → Alike p s t (at + n))
 Alike (text n k) s t at = (at + n ≤ length s ↔ at + n ≤ length t)
     × (at + n ≤ length s → (textOf at (take n (drop at s)) ≡ textOf at (take n (drop at t))) × Alike (k (textOf at (take n (drop at s)))) s t (at + n))
+Alike (counted c k) s t at = (at + 4 ≤ length s ↔ at + 4 ≤ length t)
+    × (at + 4 ≤ length s → (wordAt s at ≡ wordAt t at) × Alike (k (wordAt s at)) s t (at + 4))
 
 -- the positions whose bytes reach the answer, or decide it: all but those that are passed over and those after the end
 abbrev pub Kept : {A : Type 0} → Prog A → List ℕ → ℕ → ℕ → Type 0
@@ -24,6 +27,7 @@ Kept (refuse r) s at i = ⊥
 Kept (byte k) s at i = (i ≡ at) ⊎ Kept (k (getD s at 0)) s (at + 1) i
 Kept (pass n p) s at i = Kept p s (at + n) i
 Kept (text n k) s at i = ((at ≤ i) × (i < at + n)) ⊎ Kept (k (textOf at (take n (drop at s)))) s (at + n) i
+Kept (counted c k) s at i = ((at ≤ i) × (i < at + 4)) ⊎ Kept (k (wordAt s at)) s (at + 4) i
 
 -- t has the kept bytes of s
 abbrev pub Same : {A : Type 0} → Prog A → List ℕ → List ℕ → ℕ → Type 0

@@ -2,10 +2,9 @@
 use Prim.Native.Nat.{ℕ, zero, suc, _+_, _*_, _-_}
 use lib.Dec.{leb}
 use Rattle.format.specs.declared.Counted.{Counted}
-use Rattle.format.specs.declared.Counted.the-variants as C
-use Rattle.format.specs.declared.Stop.the-variants as S
 use Rattle.format.specs.Text.{TextRead, pick}
-use Rattle.format.specs.Prog.{Prog, ret, refuse, byte, pass, text, bind, whenLe}
+use Rattle.format.specs.Count.{NEGATIVE}
+use Rattle.format.specs.Prog.{Prog, ret, refuse, wrongLength, byte, pass, text, counted, bind, whenLe}
 
 unfoldable pub u8 : Prog ℕ
 u8 = byte (λ b. ret b)
@@ -27,38 +26,13 @@ skip n = pass n (ret tt)
 unfoldable pub textBytes : ℕ → Prog TextRead
 textBytes n = text n (λ t. ret t)
 
--- the first 32-bit number that is negative
-abbrev pub NEGATIVE : ℕ
-NEGATIVE = 2147483648
-
 -- a number less one, and never below 0: the size of a string; a port, a channel, a lyric track and a lyric start (document 02, e)
 unfoldable pub lessOne : ℕ → ℕ
 lessOne v = pick (leb NEGATIVE v) 0 (v - 1)
 
--- document 01's number of a count, and its limit
-abbrev pub countNumber : Counted → ℕ
-countNumber C.NoticeLines = 1
-countNumber C.Bars = 2
-countNumber C.Tracks = 3
-countNumber C.Strings = 4
-countNumber C.Beats = 5
-countNumber C.Points = 6
-
-abbrev pub limitOf : Counted → ℕ
-limitOf C.NoticeLines = 1000
-limitOf C.Bars = 10000
-limitOf C.Tracks = 100
-limitOf C.Strings = 7
-limitOf C.Beats = 1000
-limitOf C.Points = 1000
-
--- a count that is negative or over its limit is refused
-unfoldable pub counted : Counted → ℕ → Prog ℕ
-counted which v =
-    whenLe NEGATIVE v (refuse (S.Count which v)) (whenLe v (limitOf which) (ret v) (refuse (S.Count which v)))
-
+-- a count: within its limit, or refused with its value and where it stands
 unfoldable pub count : Counted → Prog ℕ
-count which = bind u32 (counted which)
+count which = counted which (λ v. ret v)
 
 -- no text is longer
 abbrev pub MAXSTRING : ℕ
@@ -66,10 +40,10 @@ MAXSTRING = 1048576
 
 -- a length that is over the limit, or negative, is refused before its bytes are sought; then its bytes, kept or passed over
 unfoldable pub stringOf : ℕ → Prog TextRead
-stringOf n = whenLe n MAXSTRING (textBytes n) (refuse S.Text)
+stringOf n = whenLe n MAXSTRING (textBytes n) (refuse wrongLength)
 
 unfoldable pub stringPast : ℕ → Prog Unit
-stringPast n = whenLe n MAXSTRING (skip n) (refuse S.Text)
+stringPast n = whenLe n MAXSTRING (skip n) (refuse wrongLength)
 
 -- a length byte and a field of fixed width; its bytes past the stated length are passed over
 unfoldable pub fixedString : ℕ → Prog TextRead

@@ -3,8 +3,10 @@ use Prim.Native.Nat.{ℕ, _+_, _≤_, _<_}
 use mathlib.Core.Path.{_≡_}
 use mathlib.Core.List.{List}
 use lib.ListN.{getD, take, drop}
+use Rattle.format.specs.declared.Counted.{Counted}
 use Rattle.format.specs.Text.{TextRead, textOf}
-use Rattle.format.specs.Prog.{Prog, byte, pass, text, ok, run, bind}
+use Rattle.format.specs.Count.{wordAt}
+use Rattle.format.specs.Prog.{Prog, byte, pass, text, counted, ok, run, bind}
 use Rattle.format.specs.Fields.{u32, MAXSTRING, lessOne}
 
 -- reading the file s by a program, from a position on, passes over the n bytes from k on
@@ -14,6 +16,7 @@ pub data Skips {A : Type 0} (s : List ℕ) (k n : ℕ) : Prog A → ℕ → Type
   after-byte : {f : ℕ → Prog A} {at : ℕ} → Skips s k n (f (getD s at 0)) (at + 1) → Skips s k n (byte f) at
   after-text : {f : TextRead → Prog A} {m at : ℕ}
       → Skips s k n (f (textOf at (take m (drop at s)))) (at + m) → Skips s k n (text m f) at
+  after-count : {c : Counted} {f : ℕ → Prog A} {at : ℕ} → Skips s k n (f (wordAt s at)) (at + 4) → Skips s k n (counted c f) at
 
 -- position i is one of those bytes
 pub record Skipped {A : Type 0} (s : List ℕ) (p : Prog A) (at i : ℕ) : Type 0 where

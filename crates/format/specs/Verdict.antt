@@ -18,7 +18,7 @@ pub data Verdict (A : Type 0) : Type 0 where
   truncated : Verdict A
   tooLong : Verdict A
   badVersion : Verdict A
-  badCount : Counted → ℕ → Verdict A
+  badCount : Counted → ℕ → ℕ → Verdict A
   empty : Verdict A
 
 -- the verdict of a reading that stopped; `ends` is the verdict where the bytes end before the format does
@@ -26,7 +26,7 @@ abbrev pub stopVerdict : {A : Type 0} → Verdict A → Stop → Verdict A
 stopVerdict ends S.Ends = ends
 stopVerdict ends S.Text = truncated
 stopVerdict ends S.Version = badVersion
-stopVerdict ends (S.Count which value) = badCount which value
+stopVerdict ends (S.Count which value offset) = badCount which value offset
 stopVerdict ends S.Empty = empty
 
 abbrev pub asVerdict : {A : Type 0} → Verdict A → Res A → Verdict A

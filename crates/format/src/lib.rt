@@ -30,8 +30,8 @@ pub enum Stop {
     Text,
     // no version that is read
     Version,
-    // a count is negative or over its limit: which one, and its value in two's complement
-    Count(Counted, u32),
+    // a count is negative or over its limit: which one, its value in two's complement, and where its four bytes stand
+    Count(Counted, u32, usize),
     // no bars, or no tracks
     Empty,
 }

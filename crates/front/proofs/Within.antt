@@ -6,11 +6,10 @@ use mathlib.Core.Bool.{Bool, true, false}
 use mathlib.Core.List.{List}
 use lib.Dec.{eqb}
 use Rattle.format.specs.declared.Counted.the-variants as C
-use Rattle.format.specs.declared.Stop.the-variants as S
 use Rattle.format.specs.declared.Place.{Place}
 use Rattle.format.specs.declared.Place.the-variants.{At, Stopped}
 use Rattle.format.specs.Text.{pick}
-use Rattle.format.specs.Prog.{ret, refuse, bind, Res, ok, stopped, run, whenEq}
+use Rattle.format.specs.Prog.{ret, refuse, nothingInside, bind, Res, ok, stopped, run, whenEq}
 use Rattle.format.specs.Place.{Gives}
 use Rattle.format.specs.Fields.{count}
 use Rattle.format.proofs.Run.{andThen, run-bind, ret-ok, refuse-ok, clash}
@@ -22,9 +21,9 @@ not-empty : (b t : ℕ) (s : List ℕ) (at n : ℕ) (c : Counts) → run (notEmp
 unfolding notEmpty whenEq
 not-empty b t s at n c e = go (eqb b 0) (eqb t 0) e
   where
-    go : (p q : Bool) → run (pick p (refuse S.Empty) (pick q (refuse S.Empty) (ret (record { bars = b; tracks = t })))) s at ≡ ok c n → c .tracks ≡ t
-    go true q e = refuse-ok s at n c S.Empty e
-    go false true e = refuse-ok s at n c S.Empty e
+    go : (p q : Bool) → run (pick p (refuse nothingInside) (pick q (refuse nothingInside) (ret (record { bars = b; tracks = t })))) s at ≡ ok c n → c .tracks ≡ t
+    go true q e = refuse-ok s at n c nothingInside e
+    go false true e = refuse-ok s at n c nothingInside e
     go false false e = sym (ap (λ (x : Counts). x .tracks) (ret-ok s at n c (record { bars = b; tracks = t }) e .0))
 
 second : (b : ℕ) (s : List ℕ) (at n : ℕ) (c : Counts) (x : Res ℕ) → run (count C.Tracks) s at ≡ x → andThen x (λ t m. run (notEmpty b t) s m) ≡ ok c n → c .tracks ≤ 100

@@ -5,14 +5,13 @@ use lib.Dec.{leb, ltb, eqb}
 use lib.Count.{trailingZeros, ones}
 use lib.IntN.{ℤ, pos, negsuc}
 use Rattle.format.specs.declared.Counted.the-variants as C
-use Rattle.format.specs.declared.Stop.the-variants as S
 use Rattle.model.specs.declared.Time.{Time}
 use Rattle.model.specs.declared.Mode.{Mode}
 use Rattle.model.specs.declared.Mode.the-variants.{Major, Minor}
 use Rattle.model.specs.declared.Key.{Key}
 use Rattle.model.specs.declared.Key.the-variants.{NoKey, Fifths}
 use Rattle.format.specs.Text.{TextRead, noText, pick}
-use Rattle.format.specs.Prog.{Prog, ret, refuse, bind, whenLe, whenEq, whenBits, has}
+use Rattle.format.specs.Prog.{Prog, ret, refuse, nothingInside, bind, whenLe, whenEq, whenBits, has}
 use Rattle.format.specs.Fields.{u8, skip, count, intByteString}
 use Rattle.model.specs.Answers.{noRange}
 use Rattle.header.specs.declared.Counts.{Counts}
@@ -23,7 +22,7 @@ use Rattle.header.specs.declared.Tail.{Tail}
 -- both bar and track counts are read and tested before "empty"
 unfoldable pub notEmpty : ℕ → ℕ → Prog Counts
 notEmpty bars tracks =
-    whenEq bars 0 (refuse S.Empty) (whenEq tracks 0 (refuse S.Empty) (ret (record { bars = bars; tracks = tracks })))
+    whenEq bars 0 (refuse nothingInside) (whenEq tracks 0 (refuse nothingInside) (ret (record { bars = bars; tracks = tracks })))
 
 -- beside a stop
 unfoldable pub noCounts : Counts

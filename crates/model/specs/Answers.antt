@@ -4,7 +4,7 @@ use mathlib.Core.List.{List, [], _∷_}
 use lib.IntN.{ℤ, pos}
 use lib.ListN.{getD, replicate}
 use Rattle.format.specs.declared.Range.{Range}
-use Rattle.format.specs.Fields.{countNumber}
+use Rattle.format.specs.Count.{countNumber}
 use Rattle.model.specs.declared.Outcome.{Outcome}
 use Rattle.model.specs.declared.Outcome.the-variants.{Read, Truncated, Version, Count, Empty, TooLong, NoRoom}
 use Rattle.model.specs.declared.LyricTrack.the-variants.{NoLyricTrack}
@@ -18,21 +18,23 @@ use Rattle.model.specs.declared.Answer.{Answer}
 use Rattle.model.specs.declared.Loss.{Loss}
 use Rattle.model.specs.declared.Loss.the-variants.{DrumKit, HarmonicType, LetRingWithPalmMute, OnBeatGrace, RepeatCount, TripletFeel, UnsupportedChordDiagram, UnsupportedDirection, UnsupportedFingering, UnsupportedMixChange, UnsupportedRasgueado, UnsupportedRightHandFingering, UnsupportedSlideType, UnsupportedTapping, UnsupportedVolumeSwell, UnsupportedWah, UnsupportedWhammy}
 
--- document 01's number of an outcome; of outcome 3 also the count's, from 1 on, and its value
+-- document 01's number of an outcome; of outcome 3 also the count's, from 1 on, its value, and the offset of its four bytes in the file
+-- (document 02, k)
 pub record Numbers : Type 0 where
   pub number : ℕ
   pub which : ℕ
   pub value : ℤ
+  pub offset : ℕ
 
 abbrev pub justNumber : ℕ → Numbers
-justNumber n = record { number = n; which = 0; value = pos 0 }
+justNumber n = record { number = n; which = 0; value = pos 0; offset = 0 }
 
 -- the seven outcomes
 abbrev pub numbersOf : Outcome → Numbers
 numbersOf Read = justNumber 0
 numbersOf Truncated = justNumber 1
 numbersOf Version = justNumber 2
-numbersOf (Count k v) = record { number = 3; which = countNumber k; value = v }
+numbersOf (Count k v at) = record { number = 3; which = countNumber k; value = v; offset = at }
 numbersOf Empty = justNumber 4
 numbersOf TooLong = justNumber 5
 numbersOf NoRoom = justNumber 6

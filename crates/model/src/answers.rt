@@ -14,7 +14,7 @@ use format::NO_RANGE;
 ghost use mathlib.Core.Path.{_≡_};
 ghost use lib.ListN.{getD, set};
 ghost use Rattle.tables.specs.Table.{oneMore};
-ghost use Rattle.format.specs.Fields.{countNumber};
+ghost use Rattle.format.specs.Count.{countNumber};
 ghost use Rattle.model.specs.Answers.{numbersOf, noSizes, noLosses, noLyrics, noSong, readAnswer, refusal, noRoomAnswer, lossNumber, lossWords, lossesOf};
 
 pub fn count_number(x: Counted) -> u32
@@ -37,7 +37,7 @@ pub fn outcome_number(x: Outcome) -> u32
         Outcome::Read => 0,
         Outcome::Truncated => 1,
         Outcome::Version => 2,
-        Outcome::Count(_, _) => 3,
+        Outcome::Count(_, _, _) => 3,
         Outcome::Empty => 4,
         Outcome::TooLong => 5,
         Outcome::NoRoom => 6,
@@ -51,7 +51,7 @@ pub fn outcome_which(x: Outcome) -> u32
         Outcome::Read => 0,
         Outcome::Truncated => 0,
         Outcome::Version => 0,
-        Outcome::Count(kind, _) => count_number(kind),
+        Outcome::Count(kind, _, _) => count_number(kind),
         Outcome::Empty => 0,
         Outcome::TooLong => 0,
         Outcome::NoRoom => 0,
@@ -65,7 +65,21 @@ pub fn outcome_value(x: Outcome) -> i32
         Outcome::Read => 0,
         Outcome::Truncated => 0,
         Outcome::Version => 0,
-        Outcome::Count(_, value) => value,
+        Outcome::Count(_, value, _) => value,
+        Outcome::Empty => 0,
+        Outcome::TooLong => 0,
+        Outcome::NoRoom => 0,
+    }
+}
+
+pub fn outcome_offset(x: Outcome) -> usize
+    ensures { λ r. ⌜ r ≡ numbersOf x .offset ⌝ }
+{
+    match x {
+        Outcome::Read => 0,
+        Outcome::Truncated => 0,
+        Outcome::Version => 0,
+        Outcome::Count(_, _, offset) => offset,
         Outcome::Empty => 0,
         Outcome::TooLong => 0,
         Outcome::NoRoom => 0,

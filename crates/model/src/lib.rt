@@ -337,8 +337,8 @@ pub enum Outcome {
     Read,
     Truncated,
     Version,
-    // which count, and its value
-    Count(Counted, i32),
+    // which count, its value, and the offset of its four bytes in the file
+    Count(Counted, i32, usize),
     Empty,
     TooLong,
     NoRoom,

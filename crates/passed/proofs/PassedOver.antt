@@ -12,7 +12,8 @@ use lib.ListN.{getD}
 use Rattle.format.specs.declared.Counted.the-variants as C
 use Rattle.format.specs.Text.{TextRead}
 use Rattle.format.specs.Prog.{Prog, ok, run, turns, has}
-use Rattle.format.specs.Fields.{u16, skip, NEGATIVE, count, fixedString, intByteString, intByteStringPast}
+use Rattle.format.specs.Count.{NEGATIVE}
+use Rattle.format.specs.Fields.{u16, skip, count, fixedString, intByteString, intByteStringPast}
 use Rattle.format.specs.Fields.{intByteStringUnused, intByteStringUnusedPast}
 use Rattle.format.specs.Alike.{Kept}
 use Rattle.model.specs.declared.Time.{Time}

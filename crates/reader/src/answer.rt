@@ -24,10 +24,10 @@ ghost use Rattle.words.specs.Left.{stopAnswer};
 ghost use Rattle.front.specs.Front.{songOf};
 ghost use Rattle.reader.specs.Answered.{tables, answered};
 
-fn count_refused(which: Counted, value: u32) -> Outcome
-    ensures { λ r. ⌜ r ≡ Count which (signed 2147483648 value) ⌝ }
+fn count_refused(which: Counted, value: u32, offset: usize) -> Outcome
+    ensures { λ r. ⌜ r ≡ Count which (signed 2147483648 value) offset ⌝ }
 {
-    Outcome::Count(which, bin::signed::to_i32(value))
+    Outcome::Count(which, bin::signed::to_i32(value), offset)
 }
 
 // Why reading stopped, as an outcome: where the bytes end, the file ends or the limit was met.
@@ -44,7 +44,7 @@ pub fn refusal_of(stop: Stop, longer: bool) -> Outcome
         }
         Stop::Text => Outcome::Truncated,
         Stop::Version => Outcome::Version,
-        Stop::Count(which, value) => count_refused(which, value),
+        Stop::Count(which, value, offset) => count_refused(which, value, offset),
         Stop::Empty => Outcome::Empty,
     }
 }

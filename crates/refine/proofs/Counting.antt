@@ -29,7 +29,8 @@ use Rattle.score.specs.declared.OttavaRun.the-variants.{NoRun, Over}
 use Rattle.score.specs.declared.Remembered.{Remembered}
 use Rattle.score.specs.declared.Voice.{Voice}
 use Rattle.score.specs.File.{file}
-use Rattle.score.proofs.Follow.{Relations, Alike, Agreed, Both, alike, upto-bytes}
+use Rattle.format.proofs.Verdict.{upto-bytes}
+use Rattle.score.proofs.Follow.{Relations, Alike, Agreed, Both, alike}
 use Rattle.score.specs.Sounding.{Sounding, sounds, soundingAt, soundingFrom, sounding, remember}
 use Rattle.score.specs.Members.{Keyed, keyed, putIn, ordered, inOrder, Graced, gracedAfter, graces}
 use Rattle.score.specs.Rows.{RowIs, restRow, chordRow, graceRow, graceRows, beatRow, rowsOf}

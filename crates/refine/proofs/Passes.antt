@@ -3,24 +3,19 @@ use Prim.Native.Nat.{ℕ, _*_, _≤_, _<_}
 use mathlib.Core.Path.{_≡_, refl, sym, _∙_}
 use mathlib.Core.Bool.{true}
 use mathlib.Core.List.{List}
-use native.Mathlib.Decide.{decLe}
 use native.Mathlib.Omega.{arith}
-use borrow.Author.Tests.{le-leb, lt-leb}
-use lib.Dec.{leb}
 use lib.ListN.{length, getD}
 use Rattle.format.specs.declared.Stop.{Stop}
-use Rattle.format.specs.Verdict.{LIMIT, Verdict, whole, truncated, tooLong}
-use Rattle.format.specs.Verdict.{stopVerdict, asVerdict, upTo, verdict}
-use Rattle.format.specs.Prog.{Prog, Res, ok, stopped, run}
-use Rattle.format.specs.Text.{pick}
+use Rattle.format.specs.Verdict.{LIMIT, whole, stopVerdict, asVerdict, upTo, verdict}
+use Rattle.format.specs.Prog.{Res, ok, stopped, run}
 use Rattle.format.specs.Yields.{Bytes}
-use Rattle.format.proofs.Verdict.{verdict-short, verdict-long}
+use Rattle.format.proofs.Verdict.{upto-within, upto-bytes, endOf, verdict-upto}
 use Rattle.model.specs.Kinds.{tempoOf}
 use Rattle.entries.proofs.Fits.{BarFits}
 use Rattle.entries.specs.Words.{tempoAt}
 use Rattle.score.specs.Bars.{noBar}
 use Rattle.score.specs.File.{file}
-use Rattle.score.proofs.Follow.{Agreed, Both, alike, upto-within, upto-all, upto-bytes}
+use Rattle.score.proofs.Follow.{Agreed, Both, alike}
 use Rattle.score.specs.Page.{keeping}
 use Rattle.score.specs.Reading.{Tables, Score, needed, entries, enough, filled}
 use Rattle.score.specs.Score.{scored}
@@ -37,10 +32,6 @@ use Rattle.refine.proofs.Rooms.{needed-shown, entries-shown, enough-roo
 -- what may be read of a file d, read on the words of t
 abbrev pub onePass : List ℕ → Lent → Res WordScore
 onePass d t = run (file (keeping (words (upTo LIMIT d)) (lent t))) (upTo LIMIT d) 0
-
--- what it is that the bytes end: of a file no longer than the limit, that the file ends
-abbrev pub endOf : List ℕ → Verdict Score
-endOf d = pick (leb (length d) LIMIT) truncated tooLong
 
 -- the lent tables after a pass
 abbrev pub tablesAfter : WordScore → Tables
@@ -69,13 +60,6 @@ pub record Passed (d : List ℕ) (t : Lent) (y : WordScore) (n : ℕ) : Type 0 w
   pub needs : neededBy (y .song .counts) (y .bars .tally) ≡ needed score
   pub losses : y .bars .tally .losses ≡ score .bars .tally .losses
   pub entered : enough (needed score) (tablesOf t) ≡ true → Entered t score y
-
--- the outcome of a file of any size is that of what may be read of it
-outcome-is : (p : Prog Score) (d : List ℕ) → verdict p d ≡ asVerdict (endOf d) (run p (upTo LIMIT d) 0)
-outcome-is p d = elim (decLe (length d) LIMIT) [
-  | yes h ↦ rw (le-leb (length d) LIMIT h, upto-all LIMIT d h) (verdict-short p d h)
-  | no h ↦ rw (lt-leb (length d) LIMIT (omega arith)) (verdict-long p d (omega arith))
-]
 
 module _ (s : List ℕ) (t : Lent) (x : Score) (y : WordScore) (n : ℕ) (r : Agreed s (shows s t) x y n) where
   tables-shown : Room s t (x .bars) → tablesAfter y ≡ filled (tablesOf t) x
@@ -113,7 +97,7 @@ module _ (d : List ℕ) (bytes : Bytes d) (t : Lent) (own : 100 * partStride ≤
       alike (upto-bytes LIMIT d bytes) (words-alike u (upto-within LIMIT d) t own) .follows (omega arith)
 
   pub stopped-pass : (x : Stop) → onePass d t ≡ stopped x → verdict scored d ≡ stopVerdict (endOf d) x
-  stopped-pass x e = rw (outcome-is scored d) (go (run scored u 0) (rw e at both-pass))
+  stopped-pass x e = rw (verdict-upto scored d) (go (run scored u 0) (rw e at both-pass))
     where
       go : (o : Res Score) → Both (Agreed u (shows u t)) o (stopped x) → asVerdict (endOf d) o ≡ stopVerdict (endOf d) x
       go (ok a n) r = absurd r
@@ -127,7 +111,7 @@ module _ (d : List ℕ) (bytes : Bytes d) (t : Lent) (own : 100 * partStride ≤
       go (ok x m) k r =
           record {
             score = x;
-            is = rw (outcome-is scored d, k, r .0);
+            is = rw (verdict-upto scored d, k, r .0);
             song = r .1 .song;
             needs = needed-shown u t x y m (r .1);
             losses = r .1 .bars .losses;

@@ -18,6 +18,7 @@ use Rattle.format.specs.Prog.{ok, stopped}
 use Rattle.format.specs.Text.{pick}
 use Rattle.format.specs.Yields.{Bytes}
 use Rattle.format.proofs.Run.{clash}
+use Rattle.format.proofs.Verdict.{endOf}
 use Rattle.model.specs.declared.Sizes.{Sizes}
 use Rattle.model.specs.Answers.{readAnswer, refusal, noRoomAnswer, lossesOf}
 use Rattle.model.specs.Kinds.{tempoOf}
@@ -25,7 +26,7 @@ use Rattle.entries.specs.Words.{tempoAt}
 use Rattle.score.specs.Reading.{Tables, Result, Score, needed, enough, songOf, refused, resultOf, reading}
 use Rattle.words.specs.Lent.{Lent}
 use Rattle.words.specs.Words.{partStride}
-use Rattle.refine.proofs.Passes.{onePass, endOf, tablesAfter, Entered, Passed}
+use Rattle.refine.proofs.Passes.{onePass, tablesAfter, Entered, Passed}
 use Rattle.refine.proofs.Passes.{stopped-pass, whole-pass, same-score}
 use Rattle.words.specs.Left.{neededBy, entriesBy, stopAnswer, lentWith}
 use Rattle.refine.proofs.Rooms.{WordScore}
@@ -62,7 +63,7 @@ stop-is : (d : List ℕ) (t : Tables) (x : Stop)
 stop-is d t S.Ends = end-is d t
 stop-is d t S.Text = refl
 stop-is d t S.Version = refl
-stop-is d t (S.Count which value) = refl
+stop-is d t (S.Count which value offset) = refl
 stop-is d t S.Empty = refl
 
 -- no stop is a whole file
@@ -74,7 +75,7 @@ stop-not-whole : (d : List ℕ) (why : Stop) (x : Score) (n : ℕ) → stopVerdi
 stop-not-whole d S.Ends x n e = end-not-whole (leb (length d) LIMIT) x n e
 stop-not-whole d S.Text x n e = clash (cc)
 stop-not-whole d S.Version x n e = clash (cc)
-stop-not-whole d (S.Count which value) x n e = clash (cc)
+stop-not-whole d (S.Count which value offset) x n e = clash (cc)
 stop-not-whole d S.Empty x n e = clash (cc)
 
 -- ---- the returns

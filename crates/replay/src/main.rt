@@ -81,20 +81,20 @@ fn name_differences(page: &mut [u8; PAGE], list: &[u8], from: Place, words: &[u3
     let mut s = show::PRINTED;
     let mut at = from;
     let mut differ: u32 = 0;
-    let mut k: u32 = 0;
-    while k < 37 {
+    let mut k: usize = 0;
+    while k < WORDS {
         let read = bin::u32_at(list, at);
         at = read.next;
-        if read.value != words[k as usize] {
+        if read.value != words[k] {
             s = show::entries(
                 page,
                 s,
-                b"!0{input #1: |, }?2{number|length|outcome|which|value|used|bars|tracks|rows|members|points|texts|\
+                b"!0{input #1: |, }?2{number|length|outcome|which|value|offset|used|bars|tracks|rows|members|points|texts|\
                   room for bars|room for tracks|room for rows|room for members|room for points|room for texts|\
                   drum-kit|harmonic-type|let-ring-with-palm-mute|on-beat-grace|repeat-count|triplet-feel|\
                   chord-diagram|direction|fingering|mix-change|rasgueado|right-hand-fingering|slide-type|tapping|\
                   volume-swell|wah|whammy|low half of the dump's digest|high half of the dump's digest}",
-                &[differ, words[0], k],
+                &[differ, words[0], tables::low(k)],
                 3,
                 1,
             );

@@ -16,7 +16,8 @@ use Rattle.format.specs.declared.Counted.{Counted}
 use Rattle.format.specs.declared.Counted.the-variants as C
 use Rattle.format.specs.Text.{pick}
 use Rattle.format.specs.Prog.{ret, whenBits, has}
-use Rattle.format.specs.Fields.{u8, limitOf, count}
+use Rattle.format.specs.Count.{limitOf}
+use Rattle.format.specs.Fields.{u8, count}
 use Rattle.format.specs.Yields.{Yields, Bytes, Inside, OfFile}
 use Rattle.format.proofs.Yields.{yield-any, yield-ret, yield-refuse, yield-less, yield-bind, yield-after, yield-turns}
 use Rattle.format.proofs.Yields.{yielding, yield-le, yield-eq, yield-bits}

@@ -2,12 +2,10 @@
 use Prim.Native.Nat.{ℕ, zero, suc, _+_, _≤_, _<_}
 use native.Mathlib.Omega.{arith}
 use mathlib.Core.Path.{_≡_, refl, sym}
-use mathlib.Core.List.{List, [], _∷_}
-use lib.ListN.{length, getD, take, length-take}
-use lib.Seq.{take-all}
+use mathlib.Core.List.{List}
+use lib.ListN.{length}
 use Rattle.format.specs.declared.Counted.the-variants as C
 use Rattle.format.specs.Prog.{Prog, ret, Res, ok, stopped, run, bind, turns}
-use Rattle.format.specs.Verdict.{upTo}
 use Rattle.format.specs.Yields.{Yields, Onward, Bytes}
 use Rattle.format.proofs.Run.{andThen, run-bind, run-within}
 use Rattle.format.proofs.Yields.{yield-ret, yield-after, yield-bind, yield-le}
@@ -244,24 +242,3 @@ module _ {H H' T T' W W' : Type 0} {s : List ℕ} {R : Relations H H' T T' W W'}
   pub alike : Follows s (Agreed s R) (file A) (file B) 0
   unfolding file
   alike = f-then _ _ (song-facts s 0) (λ g at w few. f-score g few at (w .1))
-
--- ---- the bytes that are read
-
--- what is read of a file of any size: no more than n of its bytes, and all of them where there are no more
-pub upto-within : (n : ℕ) (s : List ℕ) → length (upTo n s) ≤ n
-unfolding upTo
-upto-within n s = omega (arith, length-take n s)
-
-pub upto-all : (n : ℕ) (s : List ℕ) → length s ≤ n → upTo n s ≡ s
-unfolding upTo
-upto-all n s h = take-all n s h
-
-pub upto-bytes : (n : ℕ) (s : List ℕ) → Bytes s → Bytes (upTo n s)
-unfolding upTo
-upto-bytes n s h = λ i. go n s i h
-  where
-    go : (n : ℕ) (s : List ℕ) (i : ℕ) → Bytes s → getD (take n s) i 0 < 256
-    go zero s i h = omega arith
-    go (suc n) [] i h = omega arith
-    go (suc n) (x ∷ xs) zero h = h 0
-    go (suc n) (x ∷ xs) (suc i) h = go n xs i (λ j. h (suc j))

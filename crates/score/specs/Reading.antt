@@ -114,7 +114,7 @@ resultOf t (whole x used) = pick (enough (needed x) t) (record { answer = fileAn
 resultOf t truncated = refused (refusal O.Truncated) t
 resultOf t tooLong = refused (refusal O.TooLong) t
 resultOf t badVersion = refused (refusal O.Version) t
-resultOf t (badCount which value) = refused (refusal (O.Count which (signed 2147483648 value))) t
+resultOf t (badCount which value offset) = refused (refusal (O.Count which (signed 2147483648 value) offset)) t
 resultOf t empty = refused (refusal O.Empty) t
 
 unfoldable pub reading : List ℕ → Tables → Result

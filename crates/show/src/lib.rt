@@ -146,6 +146,7 @@ fn head(
         answers::outcome_number(outcome),
         answers::outcome_which(outcome),
         bin::signed::from_i32(answers::outcome_value(outcome)),
+        tables::low(answers::outcome_offset(outcome)),
         kept.bars,
         kept.tracks,
         kept.rows,
@@ -162,12 +163,12 @@ fn head(
     entries(
         page,
         s,
-        b"family #0\noutcome #1 which=#2 value=~3\n\
-          ?1{counts bars=#4 tracks=#5 rows=#6 members=#7 points=#8 texts=#9\n\
-          rooms bars=#a tracks=#b rows=#c members=#d points=#e texts=#f\n||||||\
-          rooms bars=#a tracks=#b rows=#c members=#d points=#e texts=#f\n}",
+        b"family #0\noutcome #1 which=#2 value=~3 offset=#4\n\
+          ?1{counts bars=#5 tracks=#6 rows=#7 members=#8 points=#9 texts=#a\n\
+          rooms bars=#b tracks=#c rows=#d members=#e points=#f texts=#g\n||||||\
+          rooms bars=#b tracks=#c rows=#d members=#e points=#f texts=#g\n}",
         &words,
-        16,
+        17,
         1,
     )
 }

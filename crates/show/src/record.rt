@@ -1,4 +1,4 @@
-// The oracle's list: after its first four bytes and the number of records, each record is 37 words and an input. After them come the
+// The oracle's list: after its first four bytes and the number of records, each record is 38 words and an input. After them come the
 // records whose inputs are held in short. tests/README.md has the words.
 use format::Place;
 use model::Answer;
@@ -7,9 +7,18 @@ use model::answers;
 // The list's first four bytes; the words of a record, and its bytes, before its input.
 pub const MAGIC: u32 = 1279676487;
 
-pub const WORDS: usize = 37;
+pub const WORDS: usize = 38;
 
-const RECORD: usize = 148;
+const RECORD: usize = 152;
+
+// Where the six counts and the six rooms stand, the losses, and the digest of the dump.
+pub const COUNTS: usize = 7;
+
+pub const ROOMS: usize = 13;
+
+const LOSSES: usize = 19;
+
+const DIGEST: usize = 36;
 
 // Where the input of a record starts and ends.
 pub enum Body {
@@ -47,6 +56,7 @@ pub fn answer_words(
         answers::outcome_number(outcome),
         answers::outcome_which(outcome),
         bin::signed::from_i32(answers::outcome_value(outcome)),
+        tables::low(answers::outcome_offset(outcome)),
         tables::low(answer.song.used),
         answer.counts.bars,
         answer.counts.tracks,
@@ -64,6 +74,6 @@ pub fn answer_words(
     let lost = answers::loss_words(losses);
     let halves = [(digest % 4294967296) as u32, (digest / 4294967296) as u32];
     tables::store_words(words, 0, &head);
-    tables::store_words(words, 18, &lost);
-    tables::store_words(words, 35, &halves);
+    tables::store_words(words, LOSSES, &lost);
+    tables::store_words(words, DIGEST, &halves);
 }

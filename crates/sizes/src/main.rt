@@ -19,7 +19,9 @@ use model::Sizes;
 use show::form::PAGE;
 use show::input::Input;
 use show::record::Body;
+use show::record::COUNTS;
 use show::record::MAGIC;
+use show::record::ROOMS;
 use show::record::WORDS;
 
 mod lent; // the tables before a reading, lent, and after it
@@ -103,24 +105,24 @@ fn sizes_of(needed: [u32; TABLES], entries: Entries) -> [u32; TABLES] {
 // The entries that a record says are kept.
 fn counts_of(record: &[u32; WORDS]) -> [u32; TABLES] {
     [
-        record[6],
-        record[7],
-        record[8],
-        record[9],
-        record[10],
-        record[11],
+        record[COUNTS],
+        record[COUNTS + 1],
+        record[COUNTS + 2],
+        record[COUNTS + 3],
+        record[COUNTS + 4],
+        record[COUNTS + 5],
     ]
 }
 
 // The rooms that a record says are needed.
 fn rooms_of(record: &[u32; WORDS]) -> [u32; TABLES] {
     [
-        record[12],
-        record[13],
-        record[14],
-        record[15],
-        record[16],
-        record[17],
+        record[ROOMS],
+        record[ROOMS + 1],
+        record[ROOMS + 2],
+        record[ROOMS + 3],
+        record[ROOMS + 4],
+        record[ROOMS + 5],
     ]
 }
 
@@ -170,7 +172,7 @@ fn wanted_of(record: &[u32; WORDS], fits: bool) -> [u32; WORDS] {
     }
     let rooms = rooms_of(record);
     tables::store_words(&mut words, 0, &[record[0], record[1], NO_ROOM]);
-    tables::store_words(&mut words, 12, &rooms);
+    tables::store_words(&mut words, ROOMS, &rooms);
     words
 }
 

@@ -7,7 +7,8 @@ use Rattle.format.specs.declared.Range.{Range}
 use Rattle.format.specs.declared.Counted.the-variants as C
 use Rattle.format.specs.Text.{TextRead, pick}
 use Rattle.format.specs.Prog.{Prog, ret, bind, whenLe, turns}
-use Rattle.format.specs.Fields.{u8, u32, NEGATIVE, lessOne, count, intByteStringUnused, intByteStringUnusedPast, intString}
+use Rattle.format.specs.Count.{NEGATIVE}
+use Rattle.format.specs.Fields.{u8, u32, lessOne, count, intByteStringUnused, intByteStringUnusedPast, intString}
 use Rattle.model.specs.declared.LyricLine.{LyricLine}
 use Rattle.model.specs.declared.LyricTrack.{LyricTrack}
 use Rattle.model.specs.declared.LyricTrack.the-variants.{NoLyricTrack, Under}

@@ -6,9 +6,8 @@ use mathlib.Core.Bool.{Bool, true, false}
 use lib.ListN.{getD, take, drop}
 use lib.Dec.{leb, eqb}
 use Rattle.format.specs.Text.{pick}
-use Rattle.format.specs.Prog.{Prog, ret, refuse, bind, whenLe}
+use Rattle.format.specs.Prog.{Prog, ret, refuse, wrongVersion, bind, whenLe}
 use Rattle.format.specs.Fields.{fixedString}
-use Rattle.format.specs.declared.Stop.the-variants as S
 
 -- "FICHIER GUITAR PRO v"
 abbrev pub PREFIX : List ℕ
@@ -60,7 +59,7 @@ versionOf l = pick (starts PREFIX l) (versionNumber (unplussed (drop 20 l))) 0
 
 -- a number not in 300..599 is refused
 unfoldable pub accepted : ℕ → Prog ℕ
-accepted v = whenLe 300 v (whenLe v 599 (ret v) (refuse S.Version)) (refuse S.Version)
+accepted v = whenLe 300 v (whenLe v 599 (ret v) (refuse wrongVersion)) (refuse wrongVersion)
 
 -- "bytes of a fixed field past its stated length" are passed over
 unfoldable pub version : Prog ℕ

@@ -13,6 +13,7 @@ use Rattle.format.specs.Text.{pick}
 use Rattle.format.specs.Prog.{Prog, ok, run}
 use Rattle.format.specs.Yields.{Yields, Bytes}
 use Rattle.format.proofs.Fits.{reads}
+use Rattle.format.proofs.Verdict.{upto-bytes}
 use Rattle.format.proofs.Yields.{yield-ret, yield-bind, yield-after, yield-turns}
 use Rattle.model.specs.declared.Bar.{Bar}
 use Rattle.model.specs.declared.Program.the-variants.{NoProgram}
@@ -27,7 +28,6 @@ use Rattle.track.specs.Track as T
 use Rattle.beat.specs.Head.{tupletOf, headOf, head}
 use Rattle.beat.specs.Beat.{beatNotes, beatBy, beat}
 use Rattle.score.proofs.Facts.{TimeFits, HeaderFacts, TrackFacts, common-time, header-facts, track-facts, beat-facts}
-use Rattle.score.proofs.Follow.{upto-bytes}
 use Rattle.score.specs.File.{Opening, opening, Timed, oneHeader, headers, oneTrack, tracks, oneBeat, voice, barTrack, bar}
 use Rattle.score.specs.File.{bars, score, file}
 use Rattle.score.specs.Bars.{goesOn, barOf}

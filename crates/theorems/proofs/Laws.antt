@@ -8,22 +8,24 @@ use mathlib.Core.Bool.{Bool, true, false}
 use mathlib.Core.List.{List, _++_}
 use lib.ListN.{length, getD, take, drop, take-append-drop}
 use lib.Seq.{take-at}
+use lib.IntN.{ℤ}
+use Rattle.bin.specs.Signed.{signed}
+use Rattle.format.specs.declared.Counted.{Counted}
 use Rattle.format.specs.declared.Stop.the-variants as S
-use Rattle.format.specs.Text.{pick, textOf}
-use Rattle.format.specs.Prog.{Prog, ret, refuse, byte, pass, text, Res, ok, stopped, run}
+use Rattle.format.specs.Text.{pick}
+use Rattle.format.specs.Prog.{Res, ok, stopped, run}
 use Rattle.format.specs.Alike.{Alike, Kept}
 use Rattle.format.specs.Verdict as Ends
-use Rattle.format.specs.Verdict.{LIMIT, Verdict, whole, asVerdict, upTo, verdict}
-use Rattle.format.proofs.Run.{byte-ok, pass-ok, text-ok, run-within}
+use Rattle.format.specs.Verdict.{LIMIT, Verdict, whole, badCount, asVerdict, upTo, verdict}
+use Rattle.format.proofs.Run.{clash}
 use Rattle.format.proofs.Fits.{reads}
-use Rattle.format.proofs.Alike.{alike-run, same-run}
-use Rattle.format.proofs.Verdict.{verdict-short, verdict-long, verdict-whole, verdict-cut}
-use Rattle.score.proofs.Follow.{upto-all}
+use Rattle.format.proofs.Alike.{alike-run, kept-used, same-run}
+use Rattle.format.proofs.Verdict.{upto-all, verdict-short, verdict-long, verdict-whole, verdict-cut}
 use Rattle.score.specs.Score.{scored}
 use Rattle.score.specs.Reading.{Tables, Result, Score, songOf, needed, enough, filled, fileAnswer, refused, resultOf}
 use Rattle.score.specs.Reading.{reading}
 use Rattle.model.specs.declared.Outcome.the-variants as O
-use Rattle.model.specs.Answers.{refusal, noRoomAnswer}
+use Rattle.model.specs.Answers.{numbersOf, refusal, noRoomAnswer}
 use Rattle.theorems.proofs.Filled.{Untouched, untouched, filled-past}
 use Rattle.theorems.specs.Promise.{outcomeIn, used, Beginning, Stops, Seven, read, truncated, version, count, empty}
 use Rattle.theorems.specs.Promise.{tooLong, noRoom}
@@ -46,7 +48,7 @@ module _ (d : List ℕ) (t : Tables) (ends : Verdict Score)
   of-run (stopped S.Ends) e = cut (record { stops = e })
   of-run (stopped S.Text) e = truncated (inr (record { stops = e }))
   of-run (stopped S.Version) e = version (record { stops = e })
-  of-run (stopped (S.Count which value)) e = count (record { stops = e })
+  of-run (stopped (S.Count which value offset)) e = count (record { stops = e })
   of-run (stopped S.Empty) e = empty (record { stops = e })
 
   of-reading : Seven d t (reading d t)
@@ -59,29 +61,6 @@ seven-outcomes d t = elim (decLe (length d) LIMIT) [
       of-reading d t Ends.truncated (verdict-short scored d h ∙ rw (upto-all LIMIT d h)) (λ s. truncated (inl (h, s)))
   | no h ↦ of-reading d t Ends.tooLong (verdict-long scored d (omega arith)) (λ s. tooLong (omega arith) s)
 ]
-
--- a kept position of what was read is one of the bytes used
-pub kept-used : {A : Type 0} (p : Prog A) (s : List ℕ) (at n i : ℕ) (a : A) → at ≤ length s → run p s at ≡ ok a n
-    → Kept p s at i → i < n
-kept-used (ret x) s at n i a h e k = absurd k
-kept-used (refuse r) s at n i a h e k = absurd k
-kept-used (byte f) s at n i a h e (inl k) =
-    let w = byte-ok s at n a f e in
-    let v = run-within (f (getD s at 0)) s (at + 1) n a (omega arith) (w .1) in
-    omega arith
-kept-used (byte f) s at n i a h e (inr k) =
-    let w = byte-ok s at n a f e in
-    kept-used (f (getD s at 0)) s (at + 1) n i a (omega arith) (w .1) k
-kept-used (pass m p) s at n i a h e k =
-    let w = pass-ok s at n a m p e in
-    kept-used p s (at + m) n i a (w .0) (w .1) k
-kept-used (text m f) s at n i a h e (inl k) =
-    let w = text-ok s at n a m f e in
-    let v = run-within (f (textOf at (take m (drop at s)))) s (at + m) n a (w .0) (w .1) in
-    omega arith
-kept-used (text m f) s at n i a h e (inr k) =
-    let w = text-ok s at n a m f e in
-    kept-used (f (textOf at (take m (drop at s)))) s (at + m) n i a (w .0) (w .1) k
 
 -- ---- what each of them says, by its number
 
@@ -132,6 +111,45 @@ past-counts {t = t} (count s) = untouched _ t
 past-counts {t = t} (empty s) = untouched _ t
 past-counts {t = t} (tooLong l s) = untouched _ t
 past-counts {t = t} (noRoom b e) = untouched _ t
+
+-- a count that was refused, and its offset, are in outcome 3 alone
+pub no-offset : {d : List ℕ} {t : Tables} {r : Result} → Seven d t r → (outcomeIn r ≡ 3 → ⊥)
+    → numbersOf (r .answer .outcome) .offset ≡ 0
+no-offset (read b e) h = refl
+no-offset (truncated s) h = refl
+no-offset (version s) h = refl
+no-offset (count s) h = absurd (h refl)
+no-offset (empty s) h = refl
+no-offset (tooLong l s) h = refl
+no-offset (noRoom b e) h = refl
+
+-- ---- a count that was refused
+
+module _ (t : Tables) {which : Counted} {value : ℤ} {offset : ℕ} where
+  was-refused : (v : Verdict Score) → resultOf t v .answer .outcome ≡ O.Count which value offset
+      → (word : ℕ) × (value ≡ signed 2147483648 word) × (v ≡ badCount which word offset)
+  was-refused (whole x n) e = go (enough (needed x) t) e
+    where
+      go : {X : Type 0} (room : Bool)
+          → pick room (record { answer = fileAnswer x n; tables = filled t x }) (refused (noRoomAnswer (needed x)) t) .answer .outcome
+          ≡ O.Count which value offset → X
+      go true h = clash (cc)
+      go false h = clash (cc)
+  was-refused Ends.truncated e = clash (cc)
+  was-refused Ends.tooLong e = clash (cc)
+  was-refused Ends.badVersion e = clash (cc)
+  was-refused (badCount b word j) e = (word, cc, cc)
+  was-refused Ends.empty e = clash (cc)
+
+  -- the verdict says which count it was and where
+  pub count-verdict : (d : List ℕ) → reading d t .answer .outcome ≡ O.Count which value offset
+      → (word : ℕ) × (value ≡ signed 2147483648 word) × (verdict scored d ≡ badCount which word offset)
+  unfolding reading
+  count-verdict d e = was-refused (verdict scored d) e
+
+pub verdict-reading : (d : List ℕ) (t : Tables) (v : Verdict Score) → verdict scored d ≡ v → reading d t ≡ resultOf t v
+unfolding reading
+verdict-reading d t v e = rw e
 
 -- ---- a beginning that fits
 

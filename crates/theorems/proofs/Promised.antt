@@ -21,7 +21,7 @@ module _ (t : Tables) where
   numbers-so Ends.truncated = refl
   numbers-so Ends.tooLong = refl
   numbers-so badVersion = refl
-  numbers-so (badCount which value) = refl
+  numbers-so (badCount which value offset) = refl
   numbers-so Ends.empty = refl
 
 pub promised : {d : List ℕ} {t : Tables} {r : Result} → r ≡ reading d t → Promise d t r

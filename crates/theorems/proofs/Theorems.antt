@@ -1,18 +1,23 @@
 -- What the promise of `read` comes to, demand by demand: the demand's words stand before each theorem. Promise.antt has
 -- the words that they use, Laws.antt, Filled.antt and FitFile.antt the longer proofs.
-use Prim.Native.Nat.{ℕ, _≤_, _<_}
+use Prim.Native.Nat.{ℕ, _+_, _≤_, _<_}
 use mathlib.Core.Logic.{_↔_, _⊎_, inl, inr}
-use mathlib.Core.Path.{_≡_, refl, sym, _∙_}
+use mathlib.Core.Path.{_≡_, refl, sym, ap, _∙_}
 use mathlib.Core.Bool.{true, false}
 use mathlib.Core.List.{List}
 use lib.ListN.{length, getD, take}
+use lib.IntN.{ℤ}
+use Rattle.bin.specs.Signed.{signed}
+use Rattle.format.specs.declared.Counted.{Counted}
+use Rattle.format.specs.Count.{over, wordAt}
 use Rattle.format.specs.Alike.{Alike, Kept}
 use Rattle.format.specs.Passed.{Skipped}
 use Rattle.format.specs.Yields.{Bytes}
 use Rattle.format.proofs.Fits.{begins-unique}
 use Rattle.format.proofs.Passed.{skipped-not-kept}
+use Rattle.format.proofs.Count.{CountRefused, count-refused}
 use Rattle.model.specs.declared.Outcome.the-variants as O
-use Rattle.model.specs.Answers.{refusal, noRoomAnswer}
+use Rattle.model.specs.Answers.{numbersOf, refusal, noRoomAnswer}
 use Rattle.score.specs.Score.{scored}
 use Rattle.score.specs.Reading.{Tables, Result, Score, songOf, needed, enough, filled, fileAnswer, refused}
 use Rattle.theorems.proofs.Worked.{Worked, worked}
@@ -21,6 +26,7 @@ use Rattle.theorems.proofs.Filled.{Untouched, HandedOut, handed-out}
 use Rattle.theorems.proofs.FitFile.{score-fits}
 use Rattle.theorems.proofs.Laws.{seven-outcomes, up-to-six, refusal-keeps, read-begins, short-begins, past-counts}
 use Rattle.theorems.proofs.Laws.{fits-read, fits-short, fits-cut, same-reading}
+use Rattle.theorems.proofs.Laws.{no-offset, count-verdict, verdict-reading}
 use Rattle.theorems.proofs.Laws.{alike-begins, kept-begins, after-begins}
 
 -- ==== document 01, "How much each promise says"
@@ -139,3 +145,46 @@ module _ {d : List ℕ} {x : Score} {n : ℕ} (b : Beginning d x n) where
 pub altered-is-read-alike : {d e : List ℕ} {t : Tables} {r q : Result} → Promise d t r → Promise e t q → outcomeIn r ≡ 0
     → used r ≤ length e → ((i : ℕ) → i < used r → Kept scored d 0 i → getD d i 0 ≡ getD e i 0) → q ≡ r
 altered-is-read-alike p o h l same = sym (altered-passed-over (read-begins (one-of-seven p) h .1) p o l same)
+
+-- ==== document 02, k
+
+-- "All other returns stay": no other outcome has an offset
+pub offset-of-a-count-alone : {d : List ℕ} {t : Tables} {r : Result} → Promise d t r → (outcomeIn r ≡ 3 → ⊥)
+    → numbersOf (r .answer .outcome) .offset ≡ 0
+offset-of-a-count-alone p = no-offset (one-of-seven p)
+
+module _ {d : List ℕ} {t : Tables} {r : Result} {which : Counted} {value : ℤ} {offset : ℕ} (p : Promise d t r)
+    (told : r .answer .outcome ≡ O.Count which value offset) where
+  found : (word : ℕ) × (value ≡ signed 2147483648 word) × CountRefused scored d which word offset
+  found = let v = count-verdict t d (rw (p .is) at told) in (v .0, v .1, count-refused scored d which (v .0) offset (v .2))
+
+  -- "the offset of the four count bytes": they are in the file, the value is theirs, and it is over the count's limit
+  pub count-stands-there : (offset + 4 ≤ length d) × (value ≡ signed 2147483648 (wordAt d offset)) × (over which (wordAt d offset) ≡ true)
+  count-stands-there =
+      let c = found .2 in
+      (c .there, found .1 ∙ ap (signed 2147483648) (c .value), rw (c .value) at (c .high))
+
+  -- "The offset depends only on bytes before it": another file, whose bytes before it are the same,
+  module _ {e : List ℕ} {u : Tables} {q : Result} (o : Promise e u q) (same : take offset d ≡ take offset e) where
+    -- is truncated where it ends within the count,
+    pub count-cut-off : length e < offset + 4 → q ≡ refused (refusal O.Truncated) u
+    count-cut-off short = o .is ∙ verdict-reading e u _ (found .2 .ends e same short)
+
+    module _ (there : offset + 4 ≤ length e) where
+      -- is refused for its own four bytes where these are over the limit,
+      pub count-judged : over which (wordAt e offset) ≡ true
+          → q ≡ refused (refusal (O.Count which (signed 2147483648 (wordAt e offset)) offset)) u
+      count-judged high = o .is ∙ verdict-reading e u _ (found .2 .refuses e same there high)
+
+      -- so alike where they are the same,
+      pub count-refused-alike : wordAt d offset ≡ wordAt e offset → q ≡ refused (refusal (O.Count which value offset)) u
+      count-refused-alike equal =
+          count-judged (rw equal at (count-stands-there .2))
+          ∙ rw (count-stands-there .1, equal)
+
+      -- and else is refused for no count that stands before their end
+      pub count-behind : over which (wordAt e offset) ≡ false → {which′ : Counted} {value′ : ℤ} {offset′ : ℕ}
+          → q .answer .outcome ≡ O.Count which′ value′ offset′ → offset + 4 ≤ offset′
+      count-behind low {which′} {value′} {offset′} h =
+          let v = count-verdict u e (rw (o .is) at h) in
+          found .2 .behind e same there low which′ (v .0) offset′ (v .2)

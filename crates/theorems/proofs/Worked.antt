@@ -5,9 +5,8 @@ use mathlib.Core.Path.{_≡_, refl}
 use mathlib.Core.List.{List, [], _∷_, _++_}
 use lib.Count.{ones, onesIn, trailingZeros}
 use lib.IntN.{pos, negsuc}
-use Rattle.format.specs.declared.Stop.the-variants as S
 use Rattle.format.specs.Text.{blank, cutLen, leadLen, keepLen, keepNext, cut, trim, rangeOf, textOf}
-use Rattle.format.specs.Prog.{Prog, ret, refuse, whenLe, run, ok}
+use Rattle.format.specs.Prog.{Prog, ret, refuse, wrongVersion, whenLe, run, ok}
 use Rattle.format.specs.Fields.{textBytes}
 use Rattle.model.specs.declared.Cents.{Cents}
 use Rattle.song.specs.Version.{PREFIX, starts, isDigit, digitsLen, digitsFrom, short, unplussed, versionNumber, versionOf, accepted}
@@ -30,11 +29,11 @@ pub record Worked : Type 0 where
   -- v2.100 is 300 and accepted
   pub v2-100 : read (50 ∷ 46 ∷ 49 ∷ 48 ∷ 48 ∷ []) ≡ ret 300
   -- v5.100 is 600 and refused
-  pub v5-100 : (versionOf (PREFIX ++ (53 ∷ 46 ∷ 49 ∷ 48 ∷ 48 ∷ [])) ≡ 600) × (read (53 ∷ 46 ∷ 49 ∷ 48 ∷ 48 ∷ []) ≡ refuse S.Version)
+  pub v5-100 : (versionOf (PREFIX ++ (53 ∷ 46 ∷ 49 ∷ 48 ∷ 48 ∷ [])) ≡ 600) × (read (53 ∷ 46 ∷ 49 ∷ 48 ∷ 48 ∷ []) ≡ refuse wrongVersion)
   -- v5. is refused
-  pub v5-point : read (53 ∷ 46 ∷ []) ≡ refuse S.Version
+  pub v5-point : read (53 ∷ 46 ∷ []) ≡ refuse wrongVersion
   -- v656.300 is refused: no wrapping
-  pub v656-300 : read (54 ∷ 53 ∷ 54 ∷ 46 ∷ 51 ∷ 48 ∷ 48 ∷ []) ≡ refuse S.Version
+  pub v656-300 : read (54 ∷ 53 ∷ 54 ∷ 46 ∷ 51 ∷ 48 ∷ 48 ∷ []) ≡ refuse wrongVersion
   -- time 0/4 and time 3/6: both 4
   pub time-0-4 : timeOf 0 4 ≡ commonTime
   pub time-3-6 : timeOf 3 6 ≡ commonTime

@@ -12,7 +12,7 @@ use Rattle.format.specs.declared.Stop.the-variants as S
 use Rattle.format.specs.Prog.{stopped, run}
 use Rattle.format.specs.Fits.{Begins}
 use Rattle.format.specs.Text.{pick}
-use Rattle.format.specs.Fields.{countNumber}
+use Rattle.format.specs.Count.{countNumber}
 use Rattle.format.specs.Verdict as Ends
 use Rattle.format.specs.Verdict.{LIMIT, Verdict, whole, badVersion, badCount, upTo, verdict}
 use Rattle.model.specs.declared.Outcome.the-variants as O
@@ -25,7 +25,8 @@ abbrev pub verdictNumbers : Tables → Verdict Score → Numbers
 verdictNumbers t (whole x used) = justNumber (pick (enough (needed x) t) 0 6)
 verdictNumbers t Ends.truncated = justNumber 1
 verdictNumbers t badVersion = justNumber 2
-verdictNumbers t (badCount which value) = record { number = 3; which = countNumber which; value = signed 2147483648 value }
+verdictNumbers t (badCount which value offset) =
+    record { number = 3; which = countNumber which; value = signed 2147483648 value; offset = offset }
 verdictNumbers t Ends.empty = justNumber 4
 verdictNumbers t Ends.tooLong = justNumber 5
 
@@ -59,8 +60,8 @@ pub data Seven (d : List ℕ) (t : Tables) : Result → Type 0 where
       → Seven d t (record { answer = fileAnswer x n; tables = filled t x })
   truncated : ((length d ≤ LIMIT) × Stops d S.Ends) ⊎ Stops d S.Text → Seven d t (refused (refusal O.Truncated) t)
   version : Stops d S.Version → Seven d t (refused (refusal O.Version) t)
-  count : {which : Counted} {value : ℕ} → Stops d (S.Count which value)
-      → Seven d t (refused (refusal (O.Count which (signed 2147483648 value))) t)
+  count : {which : Counted} {value offset : ℕ} → Stops d (S.Count which value offset)
+      → Seven d t (refused (refusal (O.Count which (signed 2147483648 value) offset)) t)
   empty : Stops d S.Empty → Seven d t (refused (refusal O.Empty) t)
   tooLong : LIMIT < length d → Stops d S.Ends → Seven d t (refused (refusal O.TooLong) t)
   noRoom : {x : Score} {n : ℕ} → Beginning d x n → enough (needed x) t ≡ false

@@ -31,7 +31,7 @@ abbrev pub stopAnswer : (longer : Bool) → Stop → Outcome
 stopAnswer longer S.Ends = pick longer O.TooLong O.Truncated
 stopAnswer longer S.Text = O.Truncated
 stopAnswer longer S.Version = O.Version
-stopAnswer longer (S.Count which value) = O.Count which (signed 2147483648 value)
+stopAnswer longer (S.Count which value offset) = O.Count which (signed 2147483648 value) offset
 stopAnswer longer S.Empty = O.Empty
 
 -- the caller's tables, and parts of the reader's own

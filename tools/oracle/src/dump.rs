@@ -19,10 +19,11 @@ pub fn dump(data: &[u8], verdict: &Verdict) -> String {
     if let Some(told) = verdict.refusal() {
         line!(
             out,
-            "outcome {} which={} value={}",
+            "outcome {} which={} value={} offset={}",
             told.outcome,
             told.which,
-            told.value
+            told.value,
+            told.offset
         );
     }
     match verdict {

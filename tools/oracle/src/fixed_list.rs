@@ -28,7 +28,7 @@ const BLANKED: usize = 8;
 const VARIED: usize = 110;
 const VARIED_MEMBERS: usize = 8;
 /// Words of a record before the input's bytes.
-const WORDS: usize = 20 + LOSS_CODES.len();
+const WORDS: usize = 21 + LOSS_CODES.len();
 /// A longer input is written in short: its longest run of filling bytes is left out.
 const WHOLE: usize = 32_768;
 
@@ -244,6 +244,7 @@ fn record(number: usize, input: &[u8]) -> Vec<u32> {
         told.outcome.into(),
         told.which.into(),
         told.value as u32 as usize,
+        told.offset,
     ];
     match &verdict {
         Verdict::Read(answer) => {

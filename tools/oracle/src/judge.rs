@@ -33,6 +33,8 @@ pub struct Refusal {
     pub outcome: u8,
     pub which: u8,
     pub value: i32,
+    /// Where the count's four bytes stand.
+    pub offset: usize,
 }
 
 pub struct Answer {
@@ -148,6 +150,7 @@ impl Refusal {
             outcome,
             which: 0,
             value: 0,
+            offset: 0,
         }
     }
 
@@ -177,8 +180,8 @@ impl Refusal {
             .strip_prefix("Guitar Pro ")
             .and_then(|rest| rest.split_once(" count "))
             .expect("a refused count");
-        let value = rest
-            .strip_suffix(" is out of range")
+        let (value, offset) = rest
+            .split_once(" is out of range at ")
             .expect("a refused count");
         let place = NAMES
             .iter()
@@ -188,6 +191,7 @@ impl Refusal {
             outcome: 3,
             which: place as u8 + 1,
             value: value.parse().expect("an i32"),
+            offset: offset.parse().expect("a position"),
         }
     }
 }

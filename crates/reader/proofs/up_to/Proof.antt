@@ -3,7 +3,7 @@ use native.Mathlib.Omega.{arith}
 use mathlib.Core.Path.{refl, sym}
 use lib.Seq.{length-take-le}
 use Rattle.format.specs.Verdict.{upTo}
-use Rattle.score.proofs.Follow.{upto-all}
+use Rattle.format.proofs.Verdict.{upto-all}
 use Rattle.reader.proofs.up_to.Statement.{statement}
 use Rattle.reader.proofs.up_to.Tie as tie
 

@@ -5,10 +5,10 @@ use Rattle.replay.proofs.name_differences.Statement.{statement}
 use Rattle.replay.proofs.name_differences.Tie as tie
 
 abbrev Inv-loop : tie.InvT-loop
-Inv-loop page₀ list words s₀ at₀ differ₀ k₀ t10 t11 page s at differ k = k ≤ 37
+Inv-loop page₀ list words s₀ at₀ differ₀ k₀ t10 t11 page s at differ k = k ≤ 38
 
 abbrev μ-loop : tie.MeasureT-loop
-μ-loop page₀ list words s₀ at₀ differ₀ k₀ t10 t11 page s at differ k = 37 - k
+μ-loop page₀ list words s₀ at₀ differ₀ k₀ t10 t11 page s at differ k = 38 - k
 
 pub name-differences-spec : {M : Type 1} → statement M
 name-differences-spec =

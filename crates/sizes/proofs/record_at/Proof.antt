@@ -5,10 +5,10 @@ use Rattle.sizes.proofs.record_at.Statement.{statement}
 use Rattle.sizes.proofs.record_at.Tie as tie
 
 abbrev Inv-loop : tie.InvT-loop
-Inv-loop list words₀ at₀ k₀ words at k = k ≤ 37
+Inv-loop list words₀ at₀ k₀ words at k = k ≤ 38
 
 abbrev μ-loop : tie.MeasureT-loop
-μ-loop list words₀ at₀ k₀ words at k = 37 - k
+μ-loop list words₀ at₀ k₀ words at k = 38 - k
 
 pub record-at-spec : {M : Type 1} → statement M
 record-at-spec =

@@ -23,7 +23,7 @@ outcome-value-spec =
     (λ c. rw (c .enum-told3 .given .1))
     (λ c.
     let f : SFits w32 (c .before .x .given .0 .1 .0) = search needs in
-    let k : c .before .before .before .args .x ≡ Count (c .before .x .given .0 .0) (c .before .x .given .0 .1 .0) = cc in
+    let k : c .before .before .before .args .x ≡ Count (c .before .x .given .0 .0) (c .before .x .given .0 .1 .0) (c .before .x .given .0 .1 .1 .0) = cc in
     rw k (toZ-ofZ f))
     (λ c. rw (c .enum-told4 .given .1))
     (λ c. rw (c .enum-told5 .given .1))
