@@ -2,7 +2,7 @@
 
 use crate::dice::Dice;
 use crate::plan::REFUSED_VERSIONS;
-use crate::writer::{COUNTS, Made};
+use crate::writer::{COUNTS, Count, Made};
 
 /// A copy in which only bytes that document 01 names as passed over, and bytes after the file's
 /// end, are altered.
@@ -39,6 +39,21 @@ pub fn damaged(made: &Made, dice: &mut Dice) -> Vec<u8> {
 
 fn set_i32(bytes: &mut [u8], at: usize, value: i32) {
     bytes[at..at + 4].copy_from_slice(&value.to_le_bytes());
+}
+
+/// A copy with one count that is refused, each of the six as often as another that the file has; which, and where.
+pub fn refused_count(made: &Made, dice: &mut Dice) -> (Vec<u8>, Count, usize) {
+    let (wanted, most) = dice.pick(&COUNTS);
+    let of_kind = made.counts.iter().filter(|(_, count)| *count == wanted);
+    let places: Vec<usize> = of_kind.map(|(at, _)| *at).collect();
+    if places.is_empty() {
+        return refused_count(made, dice);
+    }
+    let mut bytes = made.bytes.clone();
+    let at = dice.pick(&places);
+    let value = dice.pick(&[-1, i32::MIN, i32::MAX, most as i32 + 1, most as i32 + 256]);
+    set_i32(&mut bytes, at, value);
+    (bytes, wanted, at)
 }
 
 fn wrong_count(made: &Made, bytes: &mut [u8], dice: &mut Dice) {

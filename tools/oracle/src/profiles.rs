@@ -1,7 +1,7 @@
 //! The kinds of files that `oracle make` writes.
 
 use crate::cases::{self, Case};
-use crate::damage::{blanked, damaged};
+use crate::damage::{blanked, damaged, refused_count};
 use crate::fail;
 use crate::generate::make;
 use crate::plan::Plan;
@@ -16,7 +16,9 @@ pub fn write(profile: &str, seed: u64, count: usize, folder: &Path) {
     };
     std::fs::create_dir_all(folder).unwrap_or_else(|error| fail(&error.to_string()));
     match profile {
-        "valid" | "unset" | "damaged" | "blanked" => write_random(profile, seed, count, write),
+        "valid" | "unset" | "damaged" | "counts" | "blanked" => {
+            write_random(profile, seed, count, write)
+        }
         "cuts" => write_cases(cases::cuts(), count, write),
         "limits" => write_cases(cases::named(true), count, write),
         "long" => write_cases(cases::long(&mut dice_of(seed, 0), count), count, write),
@@ -56,6 +58,10 @@ fn write_random(profile: &str, seed: u64, count: usize, write: impl Fn(&str, &[u
         match profile {
             "valid" | "unset" => write(&name, &made.bytes),
             "damaged" => write(&name, &damaged(&made, &mut dice)),
+            "counts" => {
+                let (bytes, which, at) = refused_count(&made, &mut dice);
+                write(&format!("{name}-which-{}-at-{at}", which as u8), &bytes);
+            }
             _ => {
                 write(&format!("{name}-before"), &made.bytes);
                 write(&format!("{name}-after"), &blanked(&made, &mut dice));

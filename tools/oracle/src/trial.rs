@@ -2,7 +2,7 @@
 
 use crate::branches;
 use crate::cases;
-use crate::damage::{blanked, damaged};
+use crate::damage::{blanked, damaged, refused_count};
 use crate::dice::Dice;
 use crate::dump::dump;
 use crate::from_source::BRANCHES;
@@ -29,8 +29,8 @@ pub fn dice_of(seed: u64, number: usize) -> Dice {
 /// The long files that `run` tries: one field at the limit, then bytes used about the limit.
 const LONG: usize = 24;
 
-/// Every named file, and for each number a valid file, a beginning of it, its blanked copy and a
-/// damaged copy.
+/// Every named file, and for each number a valid file, a beginning of it, its blanked copy, one with
+/// a count that is refused and a damaged one.
 pub fn run(seed: u64, count: usize, percent: Option<u8>) -> Trial {
     let mut trial = Trial::default();
     let long = cases::long(&mut dice_of(seed, 0), LONG);
@@ -55,6 +55,7 @@ pub fn run(seed: u64, count: usize, percent: Option<u8>) -> Trial {
             &blanked(&made, &mut dice),
         );
         trial.both(&format!("damaged {number}"), &damaged(&made, &mut dice));
+        trial.refused(&format!("counts {number}"), &made, &mut dice);
     }
     trial
 }
@@ -85,6 +86,19 @@ impl Trial {
             != Some(1)
         {
             self.find(name, "a shorter beginning is not refused as truncated");
+        }
+    }
+
+    /// Document 02, k: which count is refused, and where, is what was damaged.
+    fn refused(&mut self, name: &str, made: &Made, dice: &mut Dice) {
+        let (bytes, which, at) = refused_count(made, dice);
+        let told = self.both(name, &bytes).refusal();
+        let as_told = told.map(|told| (told.outcome, told.which, told.offset));
+        if as_told != Some((3, which as u8, at)) {
+            self.find(
+                name,
+                &format!("the count {} at {at} is not told", which as u8),
+            );
         }
     }
 
