@@ -1,6 +1,7 @@
 -- Where a count was refused, of every format: what stands there, and what any file does that begins alike (document 02, k).
 use Prim.Native.Nat.{ℕ, _+_, _≤_, _<_}
 use native.Mathlib.Omega.{arith}
+use native.Mathlib.Nat.{mod-eq-of-lt}
 use native.Mathlib.Decide.{decLe, decLt}
 use mathlib.Core.Bool.{Bool, true, false}
 use mathlib.Core.Path.{_≡_, refl, ap, sym, _∙_}
@@ -11,7 +12,7 @@ use lib.Dec.{leb}
 use Rattle.format.specs.declared.Counted.{Counted}
 use Rattle.format.specs.declared.Stop.the-variants as S
 use Rattle.format.specs.Text.{textOf, pick}
-use Rattle.format.specs.Count.{over, little, wordAt}
+use Rattle.format.specs.Count.{over, little, wordAt, asWord}
 use Rattle.format.specs.Prog.{Prog, Refusal, wrongLength, wrongVersion, nothingInside, stopOf, ret, refuse, byte, pass, text, counted, Res, ok, stopped, run}
 use Rattle.format.specs.Verdict.{LIMIT, Verdict, truncated, tooLong, badCount, asVerdict, upTo, verdict}
 use Rattle.format.proofs.Run.{clash, run-ret, run-refuse, byte-goes, byte-ends, pass-goes, pass-ends, text-goes, text-ends}
@@ -56,28 +57,40 @@ not-counted wrongLength c v i e = clash (cc)
 not-counted wrongVersion c v i e = clash (cc)
 not-counted nothingInside c v i e = clash (cc)
 
-pub count-at : {A : Type 0} (p : Prog A) (s : List ℕ) (at : ℕ) (c : Counted) (v i : ℕ)
-    → run p s at ≡ stopped (S.Count c v i) → CountAt p s at c v i
+-- for a count that is over its limit reading stopped, at a position that the stop has as a word
+abbrev pub Refused : {A : Type 0} → Prog A → List ℕ → ℕ → Counted → ℕ → ℕ → Type 0
+Refused p s at c v word = (i : ℕ) × (word ≡ asWord i) × CountAt p s at c v i
+
+pub count-at : {A : Type 0} (p : Prog A) (s : List ℕ) (at : ℕ) (c : Counted) (v word : ℕ)
+    → run p s at ≡ stopped (S.Count c v word) → Refused p s at c v word
 count-at (ret x) s at c v i e = let w = run-ret s at x in clash (cc)
 count-at {A} (refuse r) s at c v i e =
     let w : _≡_ {A = Res A} (stopped (stopOf r)) (stopped (S.Count c v i)) = sym (run-refuse s at r) ∙ e in
     not-counted r c v i (cc)
 count-at (byte k) s at c v i e = elim (decLt at (length s)) [
   | yes d ↦
-      let w = count-at (k (getD s at 0)) s (at + 1) c v i (sym (byte-goes s at k d) ∙ e) in
-      step (omega arith) w
-      (λ t h g. byte-goes t at k (omega arith) ∙ rw (same-byte s t at i (omega (arith, w .from)) g))
+      let w = count-at (k (getD s at 0)) s (at + 1) c v i (sym (byte-goes s at k d) ∙ e) in (
+        w .0,
+        w .1,
+        step (omega arith) (w .2) (λ t h g.
+            byte-goes t at k (omega arith) ∙ rw (same-byte s t at (w .0) (omega (arith, w .2 .from)) g)),
+      )
   | no d ↦ let w = byte-ends s at k (omega arith) in clash (cc)
 ]
 count-at (pass m p) s at c v i e = elim (decLe (at + m) (length s)) [
   | yes d ↦
-      step (omega arith) (count-at p s (at + m) c v i (sym (pass-goes s at m p d) ∙ e)) (λ t h g. pass-goes t at m p h)
+      let w = count-at p s (at + m) c v i (sym (pass-goes s at m p d) ∙ e) in
+      (w .0, w .1, step (omega arith) (w .2) (λ t h g. pass-goes t at m p h))
   | no d ↦ let w = pass-ends s at m p (omega arith) in clash (cc)
 ]
 count-at (text m k) s at c v i e = elim (decLe (at + m) (length s)) [
   | yes d ↦
-      let w = count-at (k (textOf at (take m (drop at s)))) s (at + m) c v i (sym (text-goes s at m k d) ∙ e) in
-      step (omega arith) w (λ t h g. text-goes t at m k h ∙ rw (same-part s t at m i (w .from) g))
+      let w = count-at (k (textOf at (take m (drop at s)))) s (at + m) c v i (sym (text-goes s at m k d) ∙ e) in (
+        w .0,
+        w .1,
+        step (omega arith) (w .2) (λ t h g.
+            text-goes t at m k h ∙ rw (same-part s t at m (w .0) (w .2 .from) g)),
+      )
   | no d ↦ let w = text-ends s at m k (omega arith) in clash (cc)
 ]
 count-at {A} (counted b k) s at c v i e = elim (decLe (at + 4) (length s)) [
@@ -86,21 +99,27 @@ count-at {A} (counted b k) s at c v i e = elim (decLe (at + 4) (length s)) [
 ]
   where
     judged : at + 4 ≤ length s → (o : Bool) → over b (wordAt s at) ≡ o
-        → (run (k (wordAt s at)) s (at + 4) ≡ stopped (S.Count c v i) → CountAt (k (wordAt s at)) s (at + 4) c v i)
-        → CountAt (counted b k) s at c v i
+        → (run (k (wordAt s at)) s (at + 4) ≡ stopped (S.Count c v i) → Refused (k (wordAt s at)) s (at + 4) c v i)
+        → Refused (counted b k) s at c v i
     judged d true o later =
-        let w : _≡_ {A = Res A} (stopped (S.Count b (wordAt s at) at)) (stopped (S.Count c v i)) = sym (count-over s at b k d o) ∙ e in
+        let w : _≡_ {A = Res A} (stopped (S.Count b (wordAt s at) (asWord at))) (stopped (S.Count c v i)) =
+        sym (count-over s at b k d o) ∙ e in
         let which : b ≡ c = cc in
         let value : wordAt s at ≡ v = cc in
-        let place : at ≡ i = cc in
-        rw (← which, ← value, ← place)
-        (record { from = omega arith; there = d; value = refl; high = o; rest = k; comes = λ t g. refl })
+        let place : asWord at ≡ i = cc in (
+          at,
+          sym place,
+          rw (← which, ← value)
+              (record { from = omega arith; there = d; value = refl; high = o; rest = k; comes = λ t g. refl }),
+        )
     judged d false o later =
-        let w = later (sym (count-goes s at b k d o) ∙ e) in
-        step (omega arith) w
-        (λ t h g.
-        let same : wordAt s at ≡ wordAt t at = ap little (same-part s t at 4 i (w .from) g) in
-        count-goes t at b k h (sym (ap (over b) same) ∙ o) ∙ rw same)
+        let w = later (sym (count-goes s at b k d o) ∙ e) in (
+          w .0,
+          w .1,
+          step (omega arith) (w .2) (λ t h g.
+              let same : wordAt s at ≡ wordAt t at = ap little (same-part s t at 4 (w .0) (w .2 .from) g) in
+              count-goes t at b k h (sym (ap (over b) same) ∙ o) ∙ rw same),
+        )
 
 -- ---- of a whole file
 
@@ -137,13 +156,29 @@ stopped-at p s c v i e =
     was-count (endOf s) (run p (upTo LIMIT s) 0) c v i (end-not-count (leb (length s) LIMIT) c v i)
     (sym (verdict-upto p s) ∙ e)
 
+-- within what may be read the word is the position
+word-of : {i : ℕ} → i + 4 ≤ LIMIT → asWord i ≡ i
+unfolding asWord
+word-of l = mod-eq-of-lt (omega arith)
+
+exact : {A : Type 0} {p : Prog A} (s : List ℕ) {at : ℕ} {c : Counted} {v word : ℕ}
+    → Refused p (upTo LIMIT s) at c v word → (word + 4 ≤ LIMIT) × CountAt p (upTo LIMIT s) at c v word
+unfolding upTo
+exact s w =
+    let l : w .0 + 4 ≤ LIMIT = omega (arith, w .2 .there, length-take LIMIT s) in
+    let same = w .1 ∙ word-of l in
+    (rw same l, rw same (w .2))
+
 module _ {A : Type 0} (p : Prog A) (s : List ℕ) (c : Counted) (v i : ℕ) (e : verdict p s ≡ badCount c v i) where
+  stands : (i + 4 ≤ LIMIT) × CountAt p (upTo LIMIT s) 0 c v i
+  stands = exact s (count-at p (upTo LIMIT s) 0 c v i (stopped-at p s c v i e))
+
   found : CountAt p (upTo LIMIT s) 0 c v i
-  found = count-at p (upTo LIMIT s) 0 c v i (stopped-at p s c v i e)
+  found = stands .1
 
   within : (i + 4 ≤ LIMIT) × (i + 4 ≤ length s)
   unfolding upTo
-  within = omega (arith, found .there, length-take LIMIT s)
+  within = (stands .0, omega (arith, found .there, length-take LIMIT s))
 
   -- another file, as far as it is read
   module _ (t : List ℕ) where
@@ -176,9 +211,11 @@ module _ {A : Type 0} (p : Prog A) (s : List ℕ) (c : Counted) (v i : ℕ) (e :
             ∙ rw (
               comes-too t g ∙ count-over (upTo LIMIT t) i c (found .rest) (enough t h) (ap (over c) (same-word t) ∙ o),
               same-word t,
+              word-of (within .0),
             );
         behind = λ t g h o b w j z.
             let on = count-goes (upTo LIMIT t) i c (found .rest) (enough t h) (ap (over c) (same-word t) ∙ o) in
-            count-at (found .rest (wordAt (upTo LIMIT t) i)) (upTo LIMIT t) (i + 4) b w j
-            (sym (comes-too t g ∙ on) ∙ stopped-at p t b w j z) .from;
+            exact t
+            (count-at (found .rest (wordAt (upTo LIMIT t) i)) (upTo LIMIT t) (i + 4) b w j
+            (sym (comes-too t g ∙ on) ∙ stopped-at p t b w j z)) .1 .from;
       }

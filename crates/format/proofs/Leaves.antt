@@ -16,7 +16,7 @@ use Rattle.format.specs.declared.Stop.{Stop}
 use Rattle.format.specs.declared.Stop.the-variants.{Ends, Count}
 use Rattle.format.specs.declared.Place.the-variants.{At, Stopped}
 use Rattle.format.specs.declared.Place.{Place}
-use Rattle.format.specs.Count.{NEGATIVE, limitOf, over, little, wordAt}
+use Rattle.format.specs.Count.{NEGATIVE, limitOf, over, little, wordAt, asWord}
 use Rattle.format.specs.Prog.{Prog, ret, ok, stopped, run, bind}
 use Rattle.format.specs.Place.{reached, Reaches, Gives}
 use Rattle.format.specs.Fields.{u8, number, u16, u32, skip, count}
@@ -158,7 +158,7 @@ module _ {s : List ℕ} {from same next : Place} {at v : ℕ} (c : Counted) (e :
         (starting e
         (record { reaches = count-goes s at c (λ x. ret x) (w .0) (rw (w .1) o) ∙ run-ret s (at + 4) (wordAt s at) ∙ rw (g, w .1, w .2) }))
 
-    pub count-refused : over c v ≡ true → Gives (count c) 0 s from 0 (Stopped (Count c v at))
+    pub count-refused : over c v ≡ true → Gives (count c) 0 s from 0 (Stopped (Count c v (asWord at)))
     unfolding count
     count-refused o =
         let w = word-read s at (rw g at word) in

@@ -13,7 +13,7 @@ use Rattle.format.specs.declared.Counted.{Counted}
 use Rattle.format.specs.declared.Stop.{Stop}
 use Rattle.format.specs.declared.Stop.the-variants.{Ends, Count}
 use Rattle.format.specs.Text.{TextRead, pick, textOf}
-use Rattle.format.specs.Count.{over, little, wordAt}
+use Rattle.format.specs.Count.{over, little, wordAt, asWord}
 use Rattle.format.specs.Prog.{Prog, Refusal, stopOf, ret, refuse, byte, pass, text, counted, Res, ok, stopped, run, bind}
 
 -- what comes after a part
@@ -47,7 +47,7 @@ run-bind (text n k) f s at =
 run-bind (counted c k) f s at =
     let v : ℕ = wordAt s at in
     rw (run-bind (k v) f s (at + 4))
-    (judged-andThen (leb (at + 4) (length s)) (over c v) (run (k v) s (at + 4)) (Count c v at) (λ a n. run (f a) s n))
+    (judged-andThen (leb (at + 4) (length s)) (over c v) (run (k v) s (at + 4)) (Count c v (asWord at)) (λ a n. run (f a) s n))
 
 -- two results that are never equal are no facts
 pub clash : {X : Type 0} → _≡_ {A = ℕ} 0 1 → X
@@ -93,7 +93,7 @@ module _ {A : Type 0} (s : List ℕ) (at : ℕ) where
   count-goes c k h o = simp (le-leb _ _ h, o)
 
   pub count-over : (c : Counted) (k : ℕ → Prog A) → at + 4 ≤ length s → over c (wordAt s at) ≡ true
-      → run (counted c k) s at ≡ stopped (Count c (wordAt s at) at)
+      → run (counted c k) s at ≡ stopped (Count c (wordAt s at) (asWord at))
   unfolding run
   count-over c k h o = simp (le-leb _ _ h, o)
 
@@ -142,8 +142,8 @@ module _ {A : Type 0} (s : List ℕ) (at n : ℕ) (a : A) where
   unfolding run
   count-ok c k e =
       let v : ℕ = wordAt s at in
-      let w = passed (leb (at + 4) (length s)) (pick (over c v) (stopped (Count c v at)) (run (k v) s (at + 4))) a n e in
-      let z = allowed (over c v) (run (k v) s (at + 4)) (Count c v at) a n (w .1) in
+      let w = passed (leb (at + 4) (length s)) (pick (over c v) (stopped (Count c v (asWord at))) (run (k v) s (at + 4))) a n e in
+      let z = allowed (over c v) (run (k v) s (at + 4)) (Count c v (asWord at)) a n (w .1) in
       (leb-true _ _ (w .0), z .0, z .1)
 
 -- a program ends no earlier than it starts, and within the file

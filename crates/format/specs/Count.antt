@@ -1,5 +1,5 @@
 -- A count: a number of four bytes that is negative, or over its limit, is refused.
-use Prim.Native.Nat.{ℕ, _+_, _*_}
+use Prim.Native.Nat.{ℕ, _+_, _*_, _%_}
 use mathlib.Core.Bool.{Bool, _||_}
 use mathlib.Core.List.{List, [], _∷_}
 use lib.ListN.{take, drop}
@@ -39,3 +39,7 @@ little (b ∷ bs) = b + 256 * little bs
 -- that of the four bytes at a position of the file s
 abbrev pub wordAt : List ℕ → ℕ → ℕ
 wordAt s at = little (take 4 (drop at s))
+
+-- a position as a stop holds it, as a word: in a file of no more than LIMIT bytes it is the position itself
+unfoldable pub asWord : ℕ → ℕ
+asWord at = at % 4294967296

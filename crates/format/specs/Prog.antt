@@ -9,7 +9,7 @@ use Rattle.format.specs.declared.Counted.{Counted}
 use Rattle.format.specs.declared.Stop.{Stop}
 use Rattle.format.specs.declared.Stop.the-variants.{Ends, Text, Version, Count, Empty}
 use Rattle.format.specs.Text.{TextRead, pick, textOf}
-use Rattle.format.specs.Count.{over, wordAt}
+use Rattle.format.specs.Count.{over, wordAt, asWord}
 
 -- why a program refuses a file by what it has read: a text's length, the version, no bars or no tracks
 pub data Refusal : Type 0 where
@@ -45,7 +45,7 @@ run (pass n p) s at = pick (leb (at + n) (length s)) (run p s (at + n)) (stopped
 run (text n k) s at = pick (leb (at + n) (length s)) (run (k (textOf at (take n (drop at s)))) s (at + n)) (stopped Ends)
 run (counted c k) s at =
     pick (leb (at + 4) (length s))
-    (pick (over c (wordAt s at)) (stopped (Count c (wordAt s at) at)) (run (k (wordAt s at)) s (at + 4)))
+    (pick (over c (wordAt s at)) (stopped (Count c (wordAt s at) (asWord at))) (run (k (wordAt s at)) s (at + 4)))
     (stopped Ends)
 
 -- one program after another

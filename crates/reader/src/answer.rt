@@ -24,10 +24,10 @@ ghost use Rattle.words.specs.Left.{stopAnswer};
 ghost use Rattle.front.specs.Front.{songOf};
 ghost use Rattle.reader.specs.Answered.{tables, answered};
 
-fn count_refused(which: Counted, value: u32, offset: usize) -> Outcome
+fn count_refused(which: Counted, value: u32, offset: u32) -> Outcome
     ensures { λ r. ⌜ r ≡ Count which (signed 2147483648 value) offset ⌝ }
 {
-    Outcome::Count(which, bin::signed::to_i32(value), offset)
+    Outcome::Count(which, bin::signed::to_i32(value), offset as usize)
 }
 
 // Why reading stopped, as an outcome: where the bytes end, the file ends or the limit was met.

@@ -301,7 +301,7 @@ pub fn at_limits(large: bool) -> Vec<Case> {
 
 /// Inputs that each tell a wrong reading from the right one where no other of the fixed list does:
 /// bend positions that are rounded, an ottava run left open by a rest, the limit of texts, unset
-/// ports.
+/// ports, the offset of a count that is not the first of its kind.
 pub fn telling() -> Vec<Case> {
     let mut cases = vec![
         case("bend-at-every-offset", bend_at_every_offset()),
@@ -323,6 +323,41 @@ pub fn telling() -> Vec<Case> {
         ));
     }
     cases.extend(unset());
+    cases.extend(later_counts());
+    cases
+}
+
+/// Strings, beats and points one over their limit: the second count of each kind, which of the
+/// points is a bend's behind a whammy's, and the last.
+fn later_counts() -> Vec<Case> {
+    let mut plan = Plan::smallest(("5.00", 500));
+    (plan.bars, plan.tracks) = (2, 3);
+    plan.strings = Some(1);
+    plan.beats = (1, 1);
+    plan.points = (1, 1);
+    for field in [
+        Field::String,
+        Field::NoteEffects,
+        Field::Bend,
+        Field::BeatEffects,
+        Field::Whammy,
+    ] {
+        plan = plan.with(field, 100);
+    }
+    let made = plain(&plan);
+    let mut cases = Vec::new();
+    for (wanted, most) in &COUNTS[3..] {
+        let of_kind = made.counts.iter().filter(|(_, count)| count == wanted);
+        let places: Vec<usize> = of_kind.map(|(at, _)| *at).collect();
+        for (said, at) in [("second", places[1]), ("last", places[places.len() - 1])] {
+            let mut made = made.clone();
+            made.set_i32(at, *most as i32 + 1);
+            cases.push(case(
+                format!("{said}-count-{}-is-{}", *wanted as u8, most + 1),
+                made.bytes,
+            ));
+        }
+    }
     cases
 }
 

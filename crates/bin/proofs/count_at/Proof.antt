@@ -1,11 +1,13 @@
 -- A number of four bytes, then judged; it stands at the place from which it is read.
 use borrow.Author.Needs.{needs}
+use Rattle.format.specs.Count.{asWord}
 use Rattle.format.proofs.Rules.{reading}
 use Rattle.format.proofs.Leaves.{over-negative, over-limit, not-over, count-read, count-refused, count-cut}
 use Rattle.bin.proofs.count_at.Statement.{statement}
 use Rattle.bin.proofs.count_at.Tie as tie
 
 pub count-at-spec : {M : Type 1} → statement M
+unfolding asWord
 count-at-spec =
     tie.close
     (tie.spec
@@ -18,6 +20,7 @@ count-at-spec =
     (λ c.
     let read = c .before .before in
     count-cut _ (read .before .before .from .given .1) (search needs) (read .u32-at .ensures .gives) (c .enum-told3 .given .1))
+    (λ c. search needs)
     (λ c.
     let read = c .before .before .before in
     count-refused _ (read .before .before .from .given .1) (search needs) (read .u32-at .ensures .gives)
