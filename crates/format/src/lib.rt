@@ -31,7 +31,7 @@ pub enum Stop {
     // no version that is read
     Version,
     // a count is negative or over its limit: which one, its value in two's complement, and where its four bytes stand, as a word
-    // (with a usize a Place would have 24 bytes, and every function hands one on)
+    // (with a usize a place would have 24 bytes, and every function hands one on)
     Count(Counted, u32, u32),
     // no bars, or no tracks
     Empty,
