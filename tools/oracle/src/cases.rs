@@ -56,8 +56,10 @@ fn one_of_each() -> Made {
 }
 
 fn place_of(made: &Made, wanted: Count) -> usize {
-    let found = made.counts.iter().find(|(_, count)| *count == wanted);
-    found.expect("the file has this count").0
+    *made
+        .places_of(wanted)
+        .first()
+        .expect("the file has this count")
 }
 
 fn with_count(made: &Made, count: Count, value: i32) -> Vec<u8> {
@@ -347,8 +349,7 @@ fn later_counts() -> Vec<Case> {
     let made = plain(&plan);
     let mut cases = Vec::new();
     for (wanted, most) in &COUNTS[3..] {
-        let of_kind = made.counts.iter().filter(|(_, count)| count == wanted);
-        let places: Vec<usize> = of_kind.map(|(at, _)| *at).collect();
+        let places = made.places_of(*wanted);
         for (said, at) in [("second", places[1]), ("last", places[places.len() - 1])] {
             let mut made = made.clone();
             made.set_i32(at, *most as i32 + 1);

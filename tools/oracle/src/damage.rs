@@ -41,11 +41,11 @@ fn set_i32(bytes: &mut [u8], at: usize, value: i32) {
     bytes[at..at + 4].copy_from_slice(&value.to_le_bytes());
 }
 
-/// A copy with one count that is refused, each of the six as often as another that the file has; which, and where.
+/// A copy with one count that is refused, each of the six as often as another that the file has;
+/// which, and where.
 pub fn refused_count(made: &Made, dice: &mut Dice) -> (Vec<u8>, Count, usize) {
     let (wanted, most) = dice.pick(&COUNTS);
-    let of_kind = made.counts.iter().filter(|(_, count)| *count == wanted);
-    let places: Vec<usize> = of_kind.map(|(at, _)| *at).collect();
+    let places = made.places_of(wanted);
     if places.is_empty() {
         return refused_count(made, dice);
     }

@@ -90,6 +90,12 @@ impl Made {
         }
     }
 
+    /// Where the counts of a kind stand, in order.
+    pub fn places_of(&self, wanted: Count) -> Vec<usize> {
+        let of_kind = self.counts.iter().filter(|(_, count)| *count == wanted);
+        of_kind.map(|(at, _)| *at).collect()
+    }
+
     pub fn set_i32(&mut self, at: usize, value: i32) {
         self.bytes[at..at + 4].copy_from_slice(&value.to_le_bytes());
     }
