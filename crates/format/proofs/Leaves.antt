@@ -139,7 +139,7 @@ module _ (s : List ℕ) (at : ℕ) where
     | no d ↦ let w = number-short 3 s at (omega arith) in (omega arith, cc)
   ]
 
-module _ {s : List ℕ} {from same next : Place} {at v : ℕ} (c : Counted) (e : from ≡ At at) (d : same ≡ At at) (read : Reaches u32 s same v next) where
+module _ {s : List ℕ} {from same next : Place} {at v : ℕ} (c : Counted) (e : from ≡ At at) (read : Reaches u32 s same v next) (d : same ≡ At at) where
   word : run u32 s at ≡ reached v next
   word = rw d at (read .reaches)
 

@@ -28,6 +28,7 @@ limitOf C.Points = 1000
 abbrev pub NEGATIVE : ℕ
 NEGATIVE = 2147483648
 
+-- a count that is refused: negative, or over its limit
 unfoldable pub over : Counted → ℕ → Bool
 over which v = leb NEGATIVE v || ltb (limitOf which) v
 
