@@ -1,17 +1,17 @@
--- Document 01, "Bytes passed over": what a beat's mix table and tail pass over.
-use Prim.Native.Nat.{ℕ, _≤_, _<_}
+-- Document 01, "Bytes passed over", and document 02, n: what a beat's mix table and tail pass over.
+use Prim.Native.Nat.{ℕ, _+_, _≤_, _<_}
 use mathlib.Core.Bool.{Bool, true}
-use mathlib.Core.Logic.{inl}
+use mathlib.Core.Logic.{inl, inr}
 use mathlib.Core.Path.{_≡_, refl}
 use mathlib.Core.List.{List}
 use lib.Dec.{ltb}
 use borrow.Author.Tests.{le-leb, lt-ltb}
 use Rattle.format.specs.Prog.{ok, run, bind, whenLe, has}
 use Rattle.format.specs.Count.{NEGATIVE}
-use Rattle.format.specs.Fields.{u8, u16, skip, intByteStringPast}
-use Rattle.format.specs.Alike.{Kept}
+use Rattle.format.specs.Fields.{u8, u16, skip, signByte, intByteStringPast}
+use Rattle.format.specs.Alike.{Kept, Signed}
 use Rattle.note.specs.Optional.{optional}
-use Rattle.beat.specs.Mix.{sign, tempoName, duration, tempoEnd, mixFlags, wah, mixStrings}
+use Rattle.beat.specs.Mix.{threeSigns, tempoName, duration, tempoEnd, mixFlags, wah, mixStrings}
 use Rattle.beat.specs.Tail.{tailByte, tail}
 use Rattle.format.specs.Passed.{Skips, itself, first, then, StringPassed}
 use Rattle.format.proofs.Passed.{skips-first, skips-after, skips-le, stands-le}
@@ -59,5 +59,11 @@ module _ {s : List ℕ} {at : ℕ} where
 
 -- "(not the wah byte)": it is kept
 pub wah-kept : (s : List ℕ) (at : ℕ) {v : ℕ} → 500 ≤ v → Kept (wah v) s at at
-unfolding wah whenLe sign u8 bind
+unfolding wah whenLe u8 bind
 wah-kept s at {v = v} l = rw (le-leb 500 v l) (inl refl)
+
+-- document 02, n: of three values of the mix table the signs alone count
+pub three-signed : (s : List ℕ) (at : ℕ)
+    → Signed threeSigns s at at × Signed threeSigns s at (at + 1) × Signed threeSigns s at (at + 1 + 1)
+unfolding threeSigns signByte bind
+three-signed s at = (inl refl, inr (inl refl), inr (inr (inl refl)))

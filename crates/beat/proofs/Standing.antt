@@ -7,7 +7,7 @@ use lib.Dec.{ltb}
 use Rattle.format.specs.Text.{TextRead}
 use Rattle.format.specs.Prog.{Prog, has}
 use Rattle.format.specs.Count.{NEGATIVE}
-use Rattle.format.specs.Fields.{u8, u32, fixedString, intByteString}
+use Rattle.format.specs.Fields.{u8, u32, signByte, fixedString, intByteString, intByteStringUnused}
 use Rattle.format.specs.Passed.{Reads, Has}
 use Rattle.format.proofs.Standing.{somewhere, reads-parts, reads-ret, reads-le, reads-gt, reads-eq, reads-ne, reads-bits}
 use Rattle.note.specs.Optional.{moreFlags}
@@ -17,18 +17,19 @@ use Rattle.beat.specs.declared.effects.BeatEffects.{BeatEffects}
 use Rattle.beat.specs.declared.mix.Mix.{Mix}
 use Rattle.beat.specs.declared.mix.Signs.{Signs}
 use Rattle.beat.specs.Head.{headOf, head}
-use Rattle.beat.specs.Chord.{diagram, oldChord, earlyChord, chord, chordName}
+use Rattle.beat.specs.Chord.{diagram, oldChord, earlyChord, chord, chordName, beatText}
 use Rattle.beat.specs.Effects.{tremoloBar, effectsBy, beatEffects}
 use Rattle.beat.specs.Mix.{threeSigns, tempoName, duration, threeDurations, tempoEnd, mixFlags, wah, mixStrings}
 use Rattle.beat.specs.Mix.{mixEnd, mixTempo, mixTable, mix}
 use Rattle.beat.specs.Tail.{tail}
 use Rattle.beat.specs.Beat.{BeatIs, beatNotes, beatBy, beat}
 
--- by the first byte's flags chord name, effects and mix table, then notes by a byte of strings, and the tail
+-- by the first byte's flags chord name, text, effects and mix table, then notes by a byte of strings, and the tail
 pub record BeatHas {B : Type 0} (s : List ℕ) (q : Prog B) (from v at : ℕ) : Type 1 where
   pub flags : ℕ
   pub flagged : (m : ℕ) × Reads s q from u8 at flags m
   pub chord : Has s q from (chordName v flags)
+  pub text : Has s q from (beatText flags)
   pub effects : Has s q from (beatEffects v flags)
   pub mix : Has s q from (mix v flags)
   pub strings : ℕ
@@ -44,8 +45,9 @@ pub record ThreeHas {B : Type 0} (s : List ℕ) (q : Prog B) (from : ℕ) : Type
   pub second : Has s q from (duration (signs .b))
   pub third : Has s q from (duration (signs .c))
 
--- a mix table: six values, the tempo with its name, trailing flags, wah and strings
+-- a mix table: the instrument and six values, the tempo with its name, trailing flags, wah and strings
 pub record MixHas {B : Type 0} (s : List ℕ) (q : Prog B) (from v : ℕ) : Type 1 where
+  pub instrument : Has s q from signByte
   pub name : Has s q from (tempoName v)
   pub tempo : ℕ
   pub paced : (k : ℕ) × (m : ℕ) × Reads s q from u32 k tempo m
@@ -75,12 +77,13 @@ module _ {B : Type 0} {s : List ℕ} {q : Prog B} {from at n : ℕ} where
       reads-parts _ _ w' (λ _ _ _ w'. reads-parts _ _ w' (λ _ _ _ w'.
       let z = reads-ret _ w' in
       let e : f ≡ h .flags = λ i. z i .flags in
-      reads-parts _ _ w (λ _ _ b w. reads-parts _ _ w (λ _ _ _ w. reads-parts _ _ w (λ _ _ c w.
+      reads-parts _ _ w (λ _ _ b w. reads-parts _ _ w (λ _ _ t w. reads-parts _ _ w (λ _ _ c w.
       reads-parts _ _ w (λ _ _ d w. reads-parts _ _ w (λ strings _ k w. reads-parts _ _ w (λ _ _ l w.
       reads-parts _ _ w (λ _ _ o _. record {
         flags = h .flags;
         flagged = (fm, rw e at a);
         chord = somewhere b;
+        text = somewhere t;
         effects = somewhere c;
         mix = somewhere d;
         strings = strings;
@@ -99,22 +102,29 @@ module _ {B : Type 0} {s : List ℕ} {q : Prog B} {from at n : ℕ} where
 
   pub mix-has : (v flags : ℕ) {x : Mix} → Reads s q from (mix v flags) at x n → has flags 0x10 ≡ true → MixHas s q from v
   unfolding mix mixTable mixTempo mixEnd tempoEnd
-  mix-has v flags w e = reads-parts _ _ (reads-bits flags 0x10 _ _ e w) (λ _ _ _ w. reads-parts _ _ w (λ _ _ _ w.
+  mix-has v flags w e = reads-parts _ _ (reads-bits flags 0x10 _ _ e w) (λ _ _ i w. reads-parts _ _ w (λ _ _ _ w.
       reads-parts _ _ w (λ x _ a w. reads-parts _ _ w (λ y _ b w. reads-parts _ _ w (λ _ _ c w.
       reads-parts _ _ w (λ tempo _ d w. reads-parts _ _ w (λ _ _ f w. reads-parts _ _ w (λ _ _ g w.
       reads-parts _ _ w (λ _ _ h w. reads-parts _ _ w (λ _ _ k w. reads-parts _ _ w (λ _ _ l w.
       reads-parts _ _ w (λ _ _ o _. record {
+        instrument = somewhere i;
         name = somewhere c;
         tempo = tempo;
         paced = (_, _, d);
         values = durations-has x a f;
         others = durations-has y b g;
         end = somewhere h;
-        lasting = reads-parts _ _ h (λ _ _ i _. somewhere i);
+        lasting = reads-parts _ _ h (λ _ _ p _. somewhere p);
         flags = somewhere k;
         wah = somewhere l;
         strings = somewhere o;
       }))))))))))))
+
+-- the beat's text, by flag 0x04
+pub text-has : {B : Type 0} {s : List ℕ} {q : Prog B} {from at n : ℕ} (flags : ℕ) {t : TextRead} → Reads s q from (beatText flags) at t n
+    → has flags 0x04 ≡ true → Has s q from intByteStringUnused
+unfolding beatText
+text-has flags w e = somewhere (reads-bits flags 0x04 _ _ e w)
 
 -- the chord's name, by flag 0x02: in a diagram from v500; before, by a byte that says which form it is
 module _ {B : Type 0} {s : List ℕ} {q : Prog B} {from at n : ℕ} where

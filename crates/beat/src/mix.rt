@@ -2,6 +2,7 @@
 ghost use mathlib.Core.Path.{_≡_};
 ghost use mathlib.Core.Bool.{true};
 ghost use Rattle.format.specs.Place.{Reaches};
+ghost use Rattle.format.specs.Fields.{signByte};
 ghost use Rattle.beat.specs.Mix as format;
 ghost use Rattle.beat.specs.Words as meaning;
 use crate::places;
@@ -37,7 +38,7 @@ struct SignsRead {
 }
 
 fn sign_at(s: &[u8], from: Place) -> SignRead
-    ensures { λ r. ⌜ Reaches format.sign (now (s .entry)) from (r .given) (r .next) ⌝ }
+    ensures { λ r. ⌜ Reaches signByte (now (s .entry)) from (r .given) (r .next) ⌝ }
 {
     let b = bin::u8_at(s, from);
     let next = b.next;
@@ -91,12 +92,17 @@ fn tempo_end(s: &[u8], from: Place, v: u32, tempo: u32) -> Place
 fn wah_at(s: &[u8], from: Place, v: u32) -> SignRead
     ensures { λ r. ⌜ Reaches (format.wah v) (now (s .entry)) from (r .given) (r .next) ⌝ }
 {
-    if 500 <= v {
-        return sign_at(s, from);
+    if v < 500 {
+        return SignRead {
+            given: false,
+            next: from,
+        };
     }
+    let b = bin::u8_at(s, from);
+    let next = b.next;
     SignRead {
-        given: false,
-        next: from,
+        given: b.value < note::NEGATIVE_BYTE,
+        next,
     }
 }
 

@@ -13,9 +13,10 @@ use Rattle.format.specs.declared.Counted.{Counted}
 use Rattle.format.specs.declared.Stop.the-variants as S
 use Rattle.format.specs.Text.{textOf, pick}
 use Rattle.format.specs.Count.{over, little, wordAt, asWord}
-use Rattle.format.specs.Prog.{Prog, Refusal, wrongLength, wrongVersion, nothingInside, stopOf, ret, refuse, byte, pass, text, counted, Res, ok, stopped, run}
+use Rattle.format.specs.Sign.{notNegative}
+use Rattle.format.specs.Prog.{Prog, Refusal, wrongLength, wrongVersion, nothingInside, stopOf, ret, refuse, byte, pass, sign, text, counted, Res, ok, stopped, run}
 use Rattle.format.specs.Verdict.{LIMIT, Verdict, truncated, tooLong, badCount, asVerdict, upTo, verdict}
-use Rattle.format.proofs.Run.{clash, run-ret, run-refuse, byte-goes, byte-ends, pass-goes, pass-ends, text-goes, text-ends}
+use Rattle.format.proofs.Run.{clash, run-ret, run-refuse, byte-goes, byte-ends, pass-goes, pass-ends, sign-goes, sign-ends, text-goes, text-ends}
 use Rattle.format.proofs.Run.{count-goes, count-over, count-ends, part-take}
 use Rattle.format.proofs.Verdict.{upto-all, verdict-short, endOf, verdict-upto}
 
@@ -82,6 +83,16 @@ count-at (pass m p) s at c v i e = elim (decLe (at + m) (length s)) [
       let w = count-at p s (at + m) c v i (sym (pass-goes s at m p d) ∙ e) in
       (w .0, w .1, step (omega arith) (w .2) (λ t h g. pass-goes t at m p h))
   | no d ↦ let w = pass-ends s at m p (omega arith) in clash (cc)
+]
+count-at (sign k) s at c v i e = elim (decLt at (length s)) [
+  | yes d ↦
+      let w = count-at (k (notNegative (getD s at 0))) s (at + 1) c v i (sym (sign-goes s at k d) ∙ e) in (
+        w .0,
+        w .1,
+        step (omega arith) (w .2) (λ t h g.
+            sign-goes t at k (omega arith) ∙ rw (same-byte s t at (w .0) (omega (arith, w .2 .from)) g)),
+      )
+  | no d ↦ let w = sign-ends s at k (omega arith) in clash (cc)
 ]
 count-at (text m k) s at c v i e = elim (decLe (at + m) (length s)) [
   | yes d ↦

@@ -10,9 +10,11 @@ use lib.ListN.{length, getD, take, drop, length-append, length-take, length-drop
 use lib.Seq.{slice, slice-cons, slice-empty, drop-drop, drop-at, take-at, drop-cons, length-take-le}
 use Rattle.format.specs.Text.{textOf}
 use Rattle.format.specs.Count.{over, little, wordAt}
-use Rattle.format.specs.Prog.{Prog, ret, refuse, byte, pass, text, counted, ok, run}
-use Rattle.format.specs.Fits.{Fits, fit-ret, fit-byte, fit-pass, fit-text, fit-count, Begins}
-use Rattle.format.proofs.Run.{part-take, ret-ok, refuse-ok, byte-ok, pass-ok, text-ok, count-ok, run-ret, byte-goes, pass-goes, text-goes, count-goes, run-within}
+use Rattle.format.specs.Sign.{notNegative}
+use Rattle.format.specs.Prog.{Prog, ret, refuse, byte, pass, sign, text, counted, ok, run}
+use Rattle.format.specs.Fits.{Fits, fit-ret, fit-byte, fit-pass, fit-sign, fit-text, fit-count, Begins}
+use Rattle.format.proofs.Run.{part-take, ret-ok, refuse-ok, byte-ok, pass-ok, sign-ok, text-ok, count-ok, run-ret, run-within}
+use Rattle.format.proofs.Run.{byte-goes, pass-goes, sign-goes, text-goes, count-goes}
 
 part-length : (at m : ℕ) (s : List ℕ) → at + m ≤ length s → length (take m (drop at s)) ≡ m
 part-length at m s h = simp (length-take, length-drop) (omega arith)
@@ -38,6 +40,10 @@ run-fits (pass m p) s at n a h e =
     let w = pass-ok s at n a m p e in
     let v = run-within p s (at + m) n a (omega arith) (w .1) in
     rw (slice-split at m n s (v .0)) (fit-pass (take m (drop at s)) (part-length at m s (w .0)) (run-fits p s (at + m) n a (omega arith) (w .1)))
+run-fits (sign k) s at n a h e =
+    let w = sign-ok s at n a k e in
+    let v = run-within (k (notNegative (getD s at 0))) s (at + 1) n a (omega arith) (w .1) in
+    rw (slice-next at n s (omega arith) (v .1)) (fit-sign (run-fits (k (notNegative (getD s at 0))) s (at + 1) n a (omega arith) (w .1)))
 run-fits (text m k) s at n a h e =
     let w = text-ok s at n a m k e in
     let t = textOf at (take m (drop at s)) in
@@ -77,6 +83,9 @@ fits-run (fit-byte {k = k} {at = at} {b = b} {t = t} {a = a} f) s post h =
 fits-run (fit-pass {p = p} {at = at} {n = n} u {t = t} {a = a} g f) s post h =
     let w = stands-part s at n u t post g h in
     pass-goes s at n p (w .0) ∙ fits-run f s post (w .2) ∙ ap (λ (m : ℕ). ok a m) (omega (arith, length-append u t))
+fits-run (fit-sign {k = k} {at = at} {b = b} {t = t} {a = a} f) s post h =
+    let w = stands-byte s at b t post h in
+    sign-goes s at k (w .0) ∙ rw (w .1) (fits-run f s post (w .2) ∙ ap (λ (m : ℕ). ok a m) (omega arith))
 fits-run (fit-text {k = k} {at = at} {n = n} u {t = t} {a = a} g f) s post h =
     let w = stands-part s at n u t post g h in
     text-goes s at n k (w .0) ∙ rw (w .1) (fits-run f s post (w .2) ∙ ap (λ (m : ℕ). ok a m) (omega (arith, length-append u t)))

@@ -5,7 +5,7 @@ use native.Mathlib.Numerals.{add-one}
 use native.Mathlib.Nat.{add-zero}
 use mathlib.Core.Path.{_≡_, refl, ap, _∙_}
 use native.Mathlib.Decide.{decLe, decLt}
-use mathlib.Core.Bool.{true, false, or-true}
+use mathlib.Core.Bool.{Bool, true, false, or-true}
 use mathlib.Core.List.{List}
 use lib.ListN.{length, getD, take, drop}
 use lib.Seq.{drop-cons}
@@ -17,9 +17,10 @@ use Rattle.format.specs.declared.Stop.the-variants.{Ends, Count}
 use Rattle.format.specs.declared.Place.the-variants.{At, Stopped}
 use Rattle.format.specs.declared.Place.{Place}
 use Rattle.format.specs.Count.{NEGATIVE, limitOf, over, little, wordAt, asWord}
+use Rattle.format.specs.Sign.{notNegative}
 use Rattle.format.specs.Prog.{Prog, ret, ok, stopped, run, bind}
-use Rattle.format.specs.Place.{reached, Reaches, Gives}
-use Rattle.format.specs.Fields.{u8, number, u16, u32, skip, count}
+use Rattle.format.specs.Place.{resume, reached, Reaches, Gives}
+use Rattle.format.specs.Fields.{u8, number, u16, u32, skip, signByte, count}
 use Rattle.format.proofs.Rules.{starting, stopping, returned, returned-at}
 use Rattle.format.proofs.Run.{run-bind, run-ret, byte-goes, byte-ends, pass-goes, pass-ends, count-goes, count-over, count-ends, clash}
 
@@ -52,6 +53,16 @@ module _ {s : List ℕ} {from : Place} {at : ℕ} (e : from ≡ At at) where
   pub skip-ends : (n : ℕ) → length s < at + n → Gives (skip n) tt s from tt (Stopped Ends)
   unfolding skip
   skip-ends n h = ended e (pass-ends s at n (ret tt) h)
+
+-- the code reads the byte and hands its sign on
+sign-run : (s : List ℕ) (from : Place) → resume signByte s from ≡ resume (bind u8 (λ b. ret (notNegative b))) s from
+unfolding run bind u8 signByte
+sign-run s (At n) = refl
+sign-run s (Stopped x) = refl
+
+pub sign-read : {s : List ℕ} {from to : Place} {given : Bool} → Reaches (bind u8 (λ b. ret (notNegative b))) s from given to
+    → Reaches signByte s from given to
+sign-read {s = s} {from = from} h = record { reaches = sign-run s from ∙ h .reaches }
 
 -- ---- numbers of every width
 little-next : (s : List ℕ) (at next w : ℕ) → next ≡ at + 1 → at < length s → little (take (suc w) (drop at s)) ≡ getD s at 0 + 256 * little (take w (drop next s))

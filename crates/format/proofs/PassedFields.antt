@@ -1,15 +1,19 @@
 -- What the kinds of field pass over.
-use Prim.Native.Nat.{ℕ, zero, suc, _+_, _*_, _-_, _≤_}
+use Prim.Native.Nat.{ℕ, zero, suc, _+_, _*_, _-_, _≤_, _<_}
 use native.Mathlib.Omega.{arith}
+use native.Mathlib.Decide.{decLe}
+use mathlib.Core.Logic.{inl, inr}
 use mathlib.Core.Path.{_≡_, refl}
 use mathlib.Core.List.{List}
 use lib.ListN.{getD}
-use Rattle.format.specs.Prog.{Prog, ret, refuse, byte, pass, text, counted, ok, run, bind}
-use Rattle.format.specs.Fields.{u8, number, u32, skip, textBytes, MAXSTRING, stringPast, fixedString, lessOne}
+use Rattle.format.specs.Text.{zeroAt}
+use Rattle.format.specs.Prog.{Prog, ret, refuse, byte, pass, sign, text, counted, ok, run, bind}
+use Rattle.format.specs.Alike.{Kept, Signed}
+use Rattle.format.specs.Fields.{u8, number, u32, skip, signByte, textBytes, MAXSTRING, stringPast, fixedString, lessOne}
 use Rattle.format.specs.Fields.{intByteString, intByteStringPast, intByteStringUnusedPast}
 use Rattle.format.proofs.Run.{ret-ok, pass-ok}
-use Rattle.format.specs.Passed.{Skips, here, past, after-byte, after-text, Stands, StringPassed}
-use Rattle.format.proofs.Passed.{skips-after, skips-le, stands-skips}
+use Rattle.format.specs.Passed.{Skips, here, past, after-byte, after-zero, after-text, Stands, StringPassed}
+use Rattle.format.proofs.Passed.{skips-after, skips-le, stands-skips, keeps-first}
 
 -- three programs, one after another
 bind-bind : {A B C : Type 0} (p : Prog A) (g : A → Prog B) (f : B → Prog C)
@@ -19,6 +23,7 @@ bind-bind (ret a) g f = refl
 bind-bind (refuse r) g f = refl
 bind-bind (byte k) g f = λ i. byte (λ b. bind-bind (k b) g f i)
 bind-bind (pass n p) g f = λ i. pass n (bind-bind p g f i)
+bind-bind (sign k) g f = λ i. sign (λ b. bind-bind (k b) g f i)
 bind-bind (text n k) g f = λ i. text n (λ t. bind-bind (k t) g f i)
 bind-bind (counted c k) g f = λ i. counted c (λ v. bind-bind (k v) g f i)
 
@@ -70,6 +75,30 @@ module _ {s : List ℕ} {at : ℕ} where
       → Skips s (at + 1 + getD s at 0) (width - getD s at 0) (fixedString width) at
   unfolding fixedString textBytes skip u8 bind
   fixed-passed width l = after-byte (skips-le _ _ l (after-text here))
+
+-- document 02, n: of a kept text, of n bytes, what follows its first zero byte; as far as that byte, and with it, each byte is kept
+module _ (s : List ℕ) (at n : ℕ) where
+  pub after-zero-passed : zeroAt s at n < at + n → Skips s (zeroAt s at n + 1) (at + n - (zeroAt s at n + 1)) (textBytes n) at
+  unfolding textBytes
+  after-zero-passed l = after-zero {m = n} {at = at} refl (omega arith)
+
+  pub text-kept : (i : ℕ) → at ≤ i → i < at + n → i ≤ zeroAt s at n → Kept (textBytes n) s at i
+  unfolding textBytes
+  text-kept i l h c = inl (l, h, c)
+
+-- each byte of a number is kept
+pub number-kept : (w : ℕ) (s : List ℕ) (at i : ℕ) → at ≤ i → i < at + w → Kept (number w) s at i
+unfolding number u8 bind
+number-kept zero s at i l h = absurd (omega arith)
+number-kept (suc w) s at i l h = elim (decLe i at) [
+  | yes d ↦ inl (omega arith)
+  | no d ↦ inr (keeps-first (number w) _ s (at + 1) i (number-kept w s (at + 1) i (omega arith) (omega arith)))
+]
+
+-- document 02, n: of a value of which the sign alone counts
+pub sign-signed : (s : List ℕ) (at : ℕ) → Signed signByte s at at
+unfolding signByte
+sign-signed s at = inl refl
 
 -- of a string with a size the length byte inside, and the contents, of size less one
 module _ {s : List ℕ} {at : ℕ} where

@@ -14,7 +14,8 @@ use Rattle.format.specs.declared.Stop.{Stop}
 use Rattle.format.specs.declared.Stop.the-variants.{Ends, Count}
 use Rattle.format.specs.Text.{TextRead, pick, textOf}
 use Rattle.format.specs.Count.{over, little, wordAt, asWord}
-use Rattle.format.specs.Prog.{Prog, Refusal, stopOf, ret, refuse, byte, pass, text, counted, Res, ok, stopped, run, bind}
+use Rattle.format.specs.Sign.{notNegative}
+use Rattle.format.specs.Prog.{Prog, Refusal, stopOf, ret, refuse, byte, pass, sign, text, counted, Res, ok, stopped, run, bind}
 
 -- what comes after a part
 abbrev pub andThen : {A B : Type 0} → Res A → (A → ℕ → Res B) → Res B
@@ -41,6 +42,9 @@ run-bind (byte k) f s at =
     (pick-andThen (ltb at (length s)) (run (k (getD s at 0)) s (at + 1)) (stopped Ends) (λ a n. run (f a) s n))
 run-bind (pass n p) f s at =
     rw (run-bind p f s (at + n)) (pick-andThen (leb (at + n) (length s)) (run p s (at + n)) (stopped Ends) (λ a n. run (f a) s n))
+run-bind (sign k) f s at =
+    let b : Bool = notNegative (getD s at 0) in
+    rw (run-bind (k b) f s (at + 1)) (pick-andThen (ltb at (length s)) (run (k b) s (at + 1)) (stopped Ends) (λ a n. run (f a) s n))
 run-bind (text n k) f s at =
     let t : TextRead = textOf at (take n (drop at s)) in
     rw (run-bind (k t) f s (at + n)) (pick-andThen (leb (at + n) (length s)) (run (k t) s (at + n)) (stopped Ends) (λ a n. run (f a) s n))
@@ -78,6 +82,14 @@ module _ {A : Type 0} (s : List ℕ) (at : ℕ) where
   pub pass-ends : (m : ℕ) (p : Prog A) → length s < at + m → run (pass m p) s at ≡ stopped Ends
   unfolding run
   pass-ends m p h = simp (lt-leb _ _ h)
+
+  pub sign-goes : (k : Bool → Prog A) → at < length s → run (sign k) s at ≡ run (k (notNegative (getD s at 0))) s (at + 1)
+  unfolding run
+  sign-goes k h = simp (lt-ltb _ _ h)
+
+  pub sign-ends : (k : Bool → Prog A) → length s ≤ at → run (sign k) s at ≡ stopped Ends
+  unfolding run
+  sign-ends k h = simp (le-ltb _ _ h)
 
   pub text-goes : (m : ℕ) (k : TextRead → Prog A) → at + m ≤ length s → run (text m k) s at ≡ run (k (textOf at (take m (drop at s)))) s (at + m)
   unfolding run
@@ -131,6 +143,12 @@ module _ {A : Type 0} (s : List ℕ) (at n : ℕ) (a : A) where
       let w = passed (leb (at + m) (length s)) (run p s (at + m)) a n e in
       (leb-true _ _ (w .0), w .1)
 
+  pub sign-ok : (k : Bool → Prog A) → run (sign k) s at ≡ ok a n → (at < length s) × (run (k (notNegative (getD s at 0))) s (at + 1) ≡ ok a n)
+  unfolding run
+  sign-ok k e =
+      let w = passed (ltb at (length s)) (run (k (notNegative (getD s at 0))) s (at + 1)) a n e in
+      (ltb-true _ _ (w .0), w .1)
+
   pub text-ok : (m : ℕ) (k : TextRead → Prog A) → run (text m k) s at ≡ ok a n → (at + m ≤ length s) × (run (k (textOf at (take m (drop at s)))) s (at + m) ≡ ok a n)
   unfolding run
   text-ok m k e =
@@ -157,6 +175,10 @@ run-within (byte k) s at n a h e =
 run-within (pass m p) s at n a h e =
     let w = pass-ok s at n a m p e in
     let v = run-within p s (at + m) n a (omega arith) (w .1) in
+    omega arith
+run-within (sign k) s at n a h e =
+    let w = sign-ok s at n a k e in
+    let v = run-within (k (notNegative (getD s at 0))) s (at + 1) n a (omega arith) (w .1) in
     omega arith
 run-within (text m k) s at n a h e =
     let w = text-ok s at n a m k e in
@@ -191,6 +213,13 @@ run-cut (pass j p) s at n m a h l g e =
     elim (decLe (at + j) m) [
       | yes d ↦ pass-goes (take m s) at j p (simp length-take (omega arith)) ∙ run-cut p s (at + j) n m a (omega arith) l g (w .1)
       | no d ↦ pass-ends (take m s) at j p (simp length-take (omega arith))
+    ]
+run-cut (sign k) s at n m a h l g e =
+    let w = sign-ok s at n a k e in
+    elim (decLt at m) [
+      | yes d ↦ sign-goes (take m s) at k (simp length-take (omega arith))
+          ∙ rw (getD-take m s at 0 d) (run-cut (k (notNegative (getD s at 0))) s (at + 1) n m a (omega arith) l g (w .1))
+      | no d ↦ sign-ends (take m s) at k (simp length-take (omega arith))
     ]
 run-cut (text j k) s at n m a h l g e =
     let w = text-ok s at n a j k e in

@@ -4,12 +4,14 @@ use native.Mathlib.Omega.{arith}
 use mathlib.Core.Bool.{true}
 use mathlib.Core.Path.{_≡_}
 use mathlib.Core.List.{List}
+use native.Mathlib.Decide.{decLe}
 use lib.Bits.{bitAnd}
 use lib.Dec.{eqb}
 use borrow.Author.Tests.{le-leb, lt-leb, eq-eqb, ne-eqb, not-true}
 use Rattle.format.specs.Prog.{Prog, ret, ok, run, bind, turns, whenLe, whenEq, whenBits, has}
-use Rattle.format.proofs.Run.{ret-ok}
-use Rattle.format.specs.Passed.{itself, first, then, Reads, Has}
+use Rattle.format.specs.Fields.{MAXSTRING, stringOf, fixedString, intByteStringUnused, intString, intByteString, lessOne}
+use Rattle.format.specs.Passed.{itself, first, then, Reads, Has, HasText}
+use Rattle.format.proofs.Run.{ret-ok, refuse-ok}
 use Rattle.format.proofs.Passed.{both-read, stands-in}
 
 -- the whole file
@@ -73,3 +75,31 @@ module _ {B : Type 0} {s : List ℕ} {q : Prog B} {from : ℕ} where
   reads-turn f (suc k) i (suc j) x l w h =
       let z : i + 1 + j ≡ i + suc j = omega arith in
       reads-parts _ _ w (λ a m _ v. reads-turn f k (i + 1) j a (omega arith) v (λ st st' m m' u. h st st' m m' (rw z at u)))
+
+-- ---- each kind of kept string has its text
+module _ {B : Type 0} {s : List ℕ} {q : Prog B} {from : ℕ} where
+  string-text : (size : ℕ) → Has s q from (stringOf size) → HasText s q from
+  unfolding stringOf
+  string-text size w = elim (decLe size MAXSTRING) [
+    | yes l ↦ (size, somewhere (reads-le _ _ l (w .3)))
+    | no l ↦ let none : ⊥ = refuse-ok s _ _ _ _ (reads-gt _ _ (omega arith) (w .3) .ran) in absurd none
+  ]
+
+  pub fixed-text : (width : ℕ) → Has s q from (fixedString width) → HasText s q from
+  unfolding fixedString
+  fixed-text width w = reads-parts _ _ (w .3) (λ n _ _ r. elim (decLe n width) [
+    | yes l ↦ reads-parts _ _ (reads-le _ _ l r) (λ _ _ t _. (n, somewhere t))
+    | no l ↦ (width, somewhere (reads-gt _ _ (omega arith) r))
+  ])
+
+  pub unused-text : Has s q from intByteStringUnused → HasText s q from
+  unfolding intByteStringUnused
+  unused-text w = reads-parts _ _ (w .3) (λ _ _ _ r. reads-parts _ _ r (λ n _ _ t. (n, somewhere t)))
+
+  pub int-text : Has s q from intString → HasText s q from
+  unfolding intString
+  int-text w = reads-parts _ _ (w .3) (λ n _ _ t. string-text n (somewhere t))
+
+  pub int-byte-text : Has s q from intByteString → HasText s q from
+  unfolding intByteString
+  int-byte-text w = reads-parts _ _ (w .3) (λ size _ _ r. reads-parts _ _ r (λ _ _ _ t. string-text (lessOne size) (somewhere t)))

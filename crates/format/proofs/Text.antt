@@ -114,7 +114,7 @@ part-slice at n s = sym (append-nil (take n (drop at s))) ∙ rw (← (slice-emp
 pub between : (start end : ℕ) (s : List ℕ) → start ≤ end → take (end - start) (drop start s) ≡ slice start end s
 between start end s h = let j : start + (end - start) ≡ end = omega arith in part-slice start (end - start) s ∙ rw j
 
-cut-within : (l : List ℕ) → cutLen l ≤ length l
+pub cut-within : (l : List ℕ) → cutLen l ≤ length l
 unfolding cutLen
 cut-within [] = omega arith
 cut-within (x ∷ xs) = cut-pick (eqb x 0) (cutLen xs) (length xs) (cut-within xs)
@@ -122,6 +122,28 @@ cut-within (x ∷ xs) = cut-pick (eqb x 0) (cutLen xs) (length xs) (cut-within x
     cut-pick : (t : Bool) (a b : ℕ) → a ≤ b → pick t 0 (suc a) ≤ suc b
     cut-pick true a b k = omega arith
     cut-pick false a b k = omega arith
+
+-- two texts that are the same as far as the first zero of the one, and with it, are cut alike (document 02, n)
+same-cut : (u w : List ℕ) → length u ≡ length w → ((i : ℕ) → i < length u → i ≤ cutLen u → getD u i 0 ≡ getD w i 0) → cut u ≡ cut w
+unfolding cut cutLen
+same-cut [] [] e h = refl
+same-cut [] (y ∷ w) e h = absurd (omega arith)
+same-cut (x ∷ u) [] e h = absurd (omega arith)
+same-cut (x ∷ u) (y ∷ w) e h =
+    let first : x ≡ y = h 0 (omega arith) (omega arith) in
+    rw (← first)
+    (go (eqb x 0) (λ i l k. h (suc i) (omega arith) k) (λ g. same-cut u w (omega arith) g))
+  where
+    go : (t : Bool) → ((i : ℕ) → i < length u → suc i ≤ pick t 0 (suc (cutLen u)) → getD u i 0 ≡ getD w i 0)
+        → (((i : ℕ) → i < length u → i ≤ cutLen u → getD u i 0 ≡ getD w i 0) → cut u ≡ cut w)
+        → take (pick t 0 (suc (cutLen u))) (x ∷ u) ≡ take (pick t 0 (suc (cutLen w))) (x ∷ w)
+    go true k later = refl
+    go false k later = ap (λ (l : List ℕ). x ∷ l) (later (λ i l m. k i l (omega arith)))
+
+pub text-by-cut : (at : ℕ) (u w : List ℕ) → length u ≡ length w → ((i : ℕ) → i < length u → i ≤ cutLen u → getD u i 0 ≡ getD w i 0)
+    → textOf at u ≡ textOf at w
+unfolding textOf
+text-by-cut at u w e h = rw (same-cut u w e h)
 
 -- the cut text is what stands up to the place where it is cut
 cut-slice : (s : List ℕ) (at n end : ℕ) → at + n ≤ length s → end ≡ at + cutLen (slice at (at + n) s) → cut (take n (drop at s)) ≡ slice at end s

@@ -1,10 +1,11 @@
 -- The kinds of field, from bytes up: numbers, counts and the four kinds of string.
 use Prim.Native.Nat.{ℕ, zero, suc, _+_, _*_, _-_}
+use mathlib.Core.Bool.{Bool}
 use lib.Dec.{leb}
 use Rattle.format.specs.declared.Counted.{Counted}
 use Rattle.format.specs.Text.{TextRead, pick}
 use Rattle.format.specs.Count.{NEGATIVE}
-use Rattle.format.specs.Prog.{Prog, ret, refuse, wrongLength, byte, pass, text, counted, bind, whenLe}
+use Rattle.format.specs.Prog.{Prog, ret, refuse, wrongLength, byte, pass, sign, text, counted, bind, whenLe}
 
 unfoldable pub u8 : Prog ℕ
 u8 = byte (λ b. ret b)
@@ -22,6 +23,10 @@ u32 = number 4
 
 unfoldable pub skip : ℕ → Prog Unit
 skip n = pass n (ret tt)
+
+-- whether a byte is 0 or more; its value is passed over (document 02, n)
+unfoldable pub signByte : Prog Bool
+signByte = sign (λ b. ret b)
 
 unfoldable pub textBytes : ℕ → Prog TextRead
 textBytes n = text n (λ t. ret t)

@@ -10,6 +10,7 @@ use Rattle.format.specs.declared.Stop.{Stop}
 use Rattle.format.specs.declared.Stop.the-variants.{Ends, Text, Version, Count, Empty}
 use Rattle.format.specs.Text.{TextRead, pick, textOf}
 use Rattle.format.specs.Count.{over, wordAt, asWord}
+use Rattle.format.specs.Sign.{notNegative}
 
 -- why a program refuses a file by what it has read: a text's length, the version, no bars or no tracks
 pub data Refusal : Type 0 where
@@ -21,13 +22,14 @@ stopOf wrongVersion = Version
 stopOf nothingInside = Empty
 
 -- A program of reads. It ends with its result (`ret`) or refuses the file (`refuse`); or it reads on: a byte that is kept (`byte`), n bytes
--- that are passed over (`pass`), n bytes of text, of which the part after cut and trim is kept (`text`), or four bytes that are a count
--- (`counted`), which is refused where it is over its limit
+-- that are passed over (`pass`), a byte of which the sign alone is handed on (`sign`; document 02, n), n bytes of text, of which the part
+-- after cut and trim is handed on (`text`), or four bytes that are a count (`counted`), which is refused where it is over its limit
 pub data Prog (A : Type 0) : Type 0 where
   ret : A → Prog A
   refuse : Refusal → Prog A
   byte : (ℕ → Prog A) → Prog A
   pass : ℕ → Prog A → Prog A
+  sign : (Bool → Prog A) → Prog A
   text : ℕ → (TextRead → Prog A) → Prog A
   counted : Counted → (ℕ → Prog A) → Prog A
 
@@ -42,6 +44,7 @@ run (ret a) s at = ok a at
 run (refuse r) s at = stopped (stopOf r)
 run (byte k) s at = pick (ltb at (length s)) (run (k (getD s at 0)) s (at + 1)) (stopped Ends)
 run (pass n p) s at = pick (leb (at + n) (length s)) (run p s (at + n)) (stopped Ends)
+run (sign k) s at = pick (ltb at (length s)) (run (k (notNegative (getD s at 0))) s (at + 1)) (stopped Ends)
 run (text n k) s at = pick (leb (at + n) (length s)) (run (k (textOf at (take n (drop at s)))) s (at + n)) (stopped Ends)
 run (counted c k) s at =
     pick (leb (at + 4) (length s))
@@ -54,6 +57,7 @@ bind (ret a) f = f a
 bind (refuse r) f = refuse r
 bind (byte k) f = byte (λ b. bind (k b) f)
 bind (pass n p) f = pass n (bind p f)
+bind (sign k) f = sign (λ b. bind (k b) f)
 bind (text n k) f = text n (λ r. bind (k r) f)
 bind (counted c k) f = counted c (λ v. bind (k v) f)
 

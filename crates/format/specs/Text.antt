@@ -25,6 +25,10 @@ unfoldable pub cutLen : List ℕ → ℕ
 cutLen [] = 0
 cutLen (x ∷ xs) = pick (eqb x 0) 0 (suc (cutLen xs))
 
+-- where the first zero byte stands among the n bytes at a position of the file s; where there is none, their end
+abbrev pub zeroAt : List ℕ → (at n : ℕ) → ℕ
+zeroAt s at n = at + cutLen (take n (drop at s))
+
 -- how many blanks stand at the start
 unfoldable pub leadLen : List ℕ → ℕ
 leadLen [] = 0

@@ -27,7 +27,7 @@ use Rattle.note.specs.declared.marks.NoteEffects.{NoteEffects}
 use Rattle.note.specs.declared.LeftHand.the-variants.{NoFinger}
 use Rattle.note.specs.declared.Hands.{Hands}
 use Rattle.note.specs.declared.NoteRead.{NoteRead}
-use Rattle.note.specs.Optional.{notNegative}
+use Rattle.format.specs.Sign.{notNegative}
 use Rattle.note.specs.Points.{bendIn}
 use Rattle.note.specs.Marks.{EffectsIs, graceOf, slideFlag, marksOf, noMarks}
 use Rattle.note.specs.Note.{NoteIs, leftHand, readOf, noteEnd, noNote}

@@ -1,21 +1,21 @@
--- Document 01, "Bytes passed over", item by item: its words stand before each theorem. Wherever a field stands in a file d,
--- the bytes that the list names of it are passed over in the reading of the whole file; by `kept-or-passed-over` no such
--- byte is kept, and all others are. That the fields stand there is said in Standing.antt.
+-- Document 01, "Bytes passed over", item by item, and what document 02, n, adds: their words stand before each theorem.
+-- Wherever a field stands in a file d, the bytes that the list names of it are passed over in the reading of the whole file; by
+-- `kept-or-passed-over` no such byte is kept, and all others are, but for those whose sign alone counts. That the fields stand
+-- there is said in Standing.antt.
 use Prim.Native.Nat.{ℕ, _+_, _*_, _-_, _≤_, _<_}
 use native.Mathlib.Omega.{arith}
 use mathlib.Core.Bool.{Bool, true}
-use mathlib.Core.Logic.{_⊎_}
 use mathlib.Core.Path.{_≡_}
 use mathlib.Core.List.{List}
 use lib.Dec.{ltb}
 use lib.ListN.{getD}
 use Rattle.format.specs.declared.Counted.the-variants as C
-use Rattle.format.specs.Text.{TextRead}
+use Rattle.format.specs.Text.{TextRead, zeroAt}
 use Rattle.format.specs.Prog.{Prog, ok, run, turns, has}
 use Rattle.format.specs.Count.{NEGATIVE}
-use Rattle.format.specs.Fields.{u16, skip, count, fixedString, intByteString, intByteStringPast}
+use Rattle.format.specs.Fields.{u16, u32, skip, signByte, textBytes, count, fixedString, intByteString, intByteStringPast}
 use Rattle.format.specs.Fields.{intByteStringUnused, intByteStringUnusedPast}
-use Rattle.format.specs.Alike.{Kept}
+use Rattle.format.specs.Alike.{Kept, Signed}
 use Rattle.model.specs.declared.Time.{Time}
 use Rattle.song.specs.declared.info.Names.{Names}
 use Rattle.song.specs.Info.{names, music, credits, notices}
@@ -25,13 +25,13 @@ use Rattle.header.specs.Header.{header}
 use Rattle.track.specs.Track.{tunings, strings, sound, effect}
 use Rattle.note.specs.Points.{BendPoint, bendPoints, bend, whammy}
 use Rattle.note.specs.Marks.{graceNote}
-use Rattle.beat.specs.Mix.{tempoName, duration, tempoEnd, mixFlags, wah, mixStrings}
+use Rattle.beat.specs.Mix.{threeSigns, tempoName, duration, tempoEnd, mixFlags, wah, mixStrings}
 use Rattle.beat.specs.Tail.{tail}
 use Rattle.score.specs.File.{voices}
 use Rattle.score.specs.Score.{scored}
 use Rattle.score.specs.Reading.{Score}
-use Rattle.format.specs.Passed.{Skips, Skipped, Stands, StringPassed}
-use Rattle.format.proofs.Passed.{skipped-not-kept, kept-or-skipped, stands-skips, stands-keeps}
+use Rattle.format.specs.Passed.{Skips, Skipped, Share, Stands, StringPassed}
+use Rattle.format.proofs.Passed.{skipped-not-kept, skipped-not-signed, signed-not-kept, share, stands-skips, stands-keeps, stands-signs}
 use Rattle.format.proofs.PassedFields as F
 use Rattle.song.proofs.Passed as S
 use Rattle.header.proofs.Passed as H
@@ -56,12 +56,22 @@ OverString d k = StringPassed d k scored 0
 pub not-kept : {d : List ℕ} {k n : ℕ} → Over d k n → (i : ℕ) → k ≤ i → i < k + n → Kept scored d 0 i → ⊥
 not-kept w i l h = skipped-not-kept w i l h
 
--- a byte of a file that is read is kept or passed over, and never both
+-- no two of the three hold of a byte
+pub record OneShare (d : List ℕ) (i : ℕ) : Type 0 where
+  pub kept-skipped : Kept scored d 0 i → Skipped d scored 0 i → ⊥
+  pub signed-skipped : Signed scored d 0 i → Skipped d scored 0 i → ⊥
+  pub signed-kept : Signed scored d 0 i → Kept scored d 0 i → ⊥
+
+-- a byte of a file that is read is kept, its sign alone counts, or it is passed over, and never two of these
 pub kept-or-passed-over : {d : List ℕ} {x : Score} {n : ℕ} → run scored d 0 ≡ ok x n → (i : ℕ) → i < n
-    → (Kept scored d 0 i ⊎ Skipped d scored 0 i) × (Kept scored d 0 i → Skipped d scored 0 i → ⊥)
+    → Share d scored 0 i × OneShare d i
 kept-or-passed-over {d} {x} {n} e i l = (
-  kept-or-skipped scored d 0 n i x e (omega arith) l,
-  λ k z. not-kept (z .skips) i (z .from) (z .below) k,
+  share scored d 0 n i x e (omega arith) l,
+  record {
+    kept-skipped = λ k z. not-kept (z .skips) i (z .from) (z .below) k;
+    signed-skipped = λ k z. skipped-not-signed (z .skips) i (z .from) (z .below) k;
+    signed-kept = signed-not-kept scored d 0 i;
+  },
 )
 
 module _ {d : List ℕ} {at : ℕ} where
@@ -190,3 +200,30 @@ module _ {d : List ℕ} {at : ℕ} where
   -- "the byte after beat flag 0x800."
   pub after-flag-0x800 : {v f k : ℕ} → At d (tail v) at → 500 ≤ v → run u16 d at ≡ ok f k → has f 0x800 ≡ true → Over d k 1
   after-flag-0x800 w l e h = stands-skips w (B.after-flag-0x800 l e h)
+
+-- ---- document 02, n
+module _ {d : List ℕ} {at : ℕ} where
+  -- "bytes after the first zero byte of a kept text within its length are passed over,": as far as that byte, and with it, they are
+  -- kept, the blanks among them that the trim takes away
+  pub after-zero : (m : ℕ) → At d (textBytes m) at → zeroAt d at m < at + m
+      → Over d (zeroAt d at m + 1) (at + m - (zeroAt d at m + 1))
+  after-zero m w l = stands-skips w (F.after-zero-passed d at m l)
+
+  pub as-far-as-zero-kept : (m : ℕ) → At d (textBytes m) at → (i : ℕ) → at ≤ i → i < at + m → i ≤ zeroAt d at m
+      → Kept scored d 0 i
+  as-far-as-zero-kept m w i l h z = stands-keeps w i (F.text-kept d at m i l h z)
+
+  -- "and a mix-table value of 0 or more may become any other such value, a negative one any other negative.": its sign alone counts,
+  -- that of the volume, pan and chorus, and of the reverb, phaser and tremolo
+  pub mix-table-values : At d threeSigns at → Signed scored d 0 at × Signed scored d 0 (at + 1) × Signed scored d 0 (at + 1 + 1)
+  mix-table-values w =
+      let three = B.three-signed d at in
+      (stands-signs w at (three .0), stands-signs w (at + 1) (three .1), stands-signs w (at + 1 + 1) (three .2))
+
+  -- "Instrument is one of these values,"
+  pub instrument : At d signByte at → Signed scored d 0 at
+  instrument w = stands-signs w at (F.sign-signed d at)
+
+  -- "tempo and wah are not.": the tempo's four bytes are kept, and the wah byte is (`wah-kept`)
+  pub tempo-kept : At d u32 at → (i : ℕ) → at ≤ i → i < at + 4 → Kept scored d 0 i
+  tempo-kept w i l h = stands-keeps w i (F.number-kept 4 d at i l h)

@@ -1,17 +1,18 @@
--- The fields of document 01's list stand in every file that is read, so PassedOver.antt speaks of bytes that are there.
+-- The fields of document 01's list, and those of document 02, n, stand in every file that is read, so PassedOver.antt speaks of bytes
+-- that are there.
 use Prim.Native.Nat.{ℕ, _≤_, _<_}
 use mathlib.Core.Bool.{true}
 use mathlib.Core.Path.{_≡_}
 use mathlib.Core.List.{List}
 use Rattle.format.specs.Prog.{Prog, ok, run, has}
-use Rattle.format.specs.Fields.{u8, fixedString, intByteString}
-use Rattle.format.specs.Passed.{Stands, Reads, Has}
+use Rattle.format.specs.Fields.{u8, fixedString, intByteString, intByteStringUnused}
+use Rattle.format.specs.Passed.{Stands, Reads, Has, HasText}
 use Rattle.format.proofs.Passed.{stands-in}
-use Rattle.format.proofs.Standing.{reads-all}
+use Rattle.format.proofs.Standing.{reads-all, fixed-text}
 use Rattle.song.specs.declared.info.Names.{Names}
 use Rattle.song.specs.Info.{names, credits, notices}
 use Rattle.song.specs.Setup.{templates, page, tempo}
-use Rattle.song.proofs.Standing.{version-has, info-has, setup-has, page-has}
+use Rattle.song.proofs.Standing.{version-has, info-has, setup-has, page-has, NamesHas, CreditsHas, LyricsHas, names-has, credits-has, lyrics-has}
 use Rattle.header.specs.Header.{header}
 use Rattle.header.proofs.Standing.{header-has}
 use Rattle.track.specs.Track.{track}
@@ -24,7 +25,7 @@ use Rattle.note.specs.Notes.{stringBit}
 use Rattle.note.proofs.Standing.{note-has, notes-has}
 use Rattle.note.proofs.Standing as N
 use Rattle.beat.specs.Beat.{beat}
-use Rattle.beat.proofs.Standing.{BeatHas, MixHas, beat-has, effects-has, mix-has, chord-has, early-chord-has}
+use Rattle.beat.proofs.Standing.{BeatHas, MixHas, beat-has, effects-has, mix-has, chord-has, early-chord-has, text-has}
 use Rattle.score.specs.Score.{lists, none, scored}
 use Rattle.score.specs.Page.{keeping}
 use Rattle.score.specs.Reading.{Score}
@@ -44,6 +45,14 @@ pub record FrontHas (d : List ℕ) (v : ℕ) : Type 1 where
   pub templates : 500 ≤ v → In d templates
   pub tempo : In d (tempo v)
 
+-- and its kept texts: the version's, the song's and those of the lyric lines. A marker, a track's name, a chord's and a beat's text are
+-- kept strings of the parts below, which have a text by the laws of format (Standing.antt: `fixed-text`, `int-byte-text`, `unused-text`)
+pub record FrontTexts (d : List ℕ) (v : ℕ) : Type 1 where
+  pub version : HasText d scored 0
+  pub names : NamesHas d scored 0
+  pub credits : CreditsHas d scored 0 v
+  pub lyrics : 400 ≤ v → LyricsHas d scored 0
+
 module _ {B : Type 0} (s : List ℕ) (q : Prog B) (from v : ℕ) where
   -- a note, by the flags of its first byte and by those of its effects
   pub record NoteListed : Type 1 where
@@ -61,6 +70,7 @@ module _ {B : Type 0} (s : List ℕ) (q : Prog B) (from v : ℕ) where
         → (form : ℕ) × (k : ℕ) × (m : ℕ) × Reads s q from u8 k form m × (form ≡ 0 → Has s q from intByteString)
         × ((form ≡ 0 → ⊥) → 400 ≤ v → Has s q from (fixedString 21))
         × ((form ≡ 0 → ⊥) → v < 400 → Has s q from (fixedString 34))
+    pub text : has (parts .flags) 0x04 ≡ true → Has s q from intByteStringUnused
     pub effects : has (parts .flags) 0x08 ≡ true
         → (more : ℕ) × (k : ℕ) × (m : ℕ) × Reads s q from (moreFlags v) k more m
         × (has more 0x04 ≡ true → Has s q from whammy)
@@ -84,6 +94,7 @@ module _ {B : Type 0} {s : List ℕ} {q : Prog B} {from : ℕ} (v : ℕ) where
     early = λ e l.
         let p = early-chord-has v (h .flags) (h .chord .3) e l in
         (p .0, h .chord .0, p .1, p .2, p .3, p .4, p .5);
+    text = λ e. text-has (h .flags) (h .text .3) e;
     effects = λ e. effects-has v (h .flags) (h .effects .3) e;
     mix = λ e. mix-has v (h .flags) (h .mix .3) e;
     notes = λ i l e. note-listed (notes-has v (h .strings) (h .notes .3) i l e);
@@ -109,6 +120,14 @@ module _ {d : List ℕ} {x : Score} {n : ℕ} (e : run scored d 0 ≡ ok x n) wh
         templates = λ l. page-has l (p .0 .3);
         tempo = p .1;
       }
+
+  pub front-texts : FrontTexts d (x .song .version)
+  front-texts = record {
+    version = fixed-text 30 (front-parts .version);
+    names = names-has (front-parts .names .3);
+    credits = credits-has (x .song .version) (front-parts .credits .0) (front-parts .credits .1 .3);
+    lyrics = λ l. lyrics-has l (all-parts .parts .lyrics .3);
+  }
 
 -- ---- inside a header, a track or a beat: what stands in it stands in the file, by `in-file`
 module _ {d : List ℕ} {at n : ℕ} (v : ℕ) where

@@ -9,6 +9,7 @@ use Rattle.score.proofs.Summary.{summary}
 use lib.Count as Count
 use Rattle.format.specs.Text as FormatText
 use Rattle.format.specs.Count as FormatCount
+use Rattle.format.specs.Sign as FormatSign
 use Rattle.format.specs.Prog as FormatProg
 use Rattle.format.specs.Fields as FormatFields
 use Rattle.bin.specs.Signed as BinSigned
@@ -390,64 +391,60 @@ input64 =
     0 ∷ 0 ∷ 0 ∷ 0 ∷ 0 ∷ 0 ∷ 0 ∷ 0 ∷ 0 ∷ 0 ∷ 0 ∷ 0 ∷ 0 ∷ 0 ∷ 0 ∷ 0 ∷ 0 ∷ 0 ∷ 0 ∷ 0 ∷ 4 ∷ 0 ∷ 0 ∷ 0 ∷ 2 ∷ 0 ∷ 0 ∷ 0 ∷ 0 ∷
     0 ∷ 0 ∷ 0 ∷ 0 ∷ 0 ∷ 0 ∷ 0 ∷ 25 ∷ 0 ∷ 0 ∷ 0 ∷ 0 ∷ 0 ∷ 0 ∷ 0 ∷ 0 ∷ 0 ∷ 0 ∷ 0 ∷ []
 
--- input 217: FICHIER GUITAR PRO v3.0
-abbrev input217 : List ℕ
-input217 =
-    25 ∷ 12 ∷ 70 ∷ 73 ∷ 67 ∷ 72 ∷ 73 ∷ 69 ∷ 82 ∷ 32 ∷ 71 ∷ 85 ∷ 73 ∷ 84 ∷ 65 ∷ 82 ∷ 32 ∷ 80 ∷ 82 ∷ 79 ∷ 32 ∷ 118 ∷ 51 ∷
-    46 ∷ 48 ∷ 48 ∷ 172 ∷ 52 ∷ 63 ∷ 172 ∷ 38 ∷ 36 ∷ 85 ∷ 232 ∷ 202 ∷ 0 ∷ 140 ∷ 12 ∷ 13 ∷ 143 ∷ 0 ∷ 56 ∷ 137 ∷ 223 ∷ 131 ∷
-    0 ∷ 119 ∷ 99 ∷ 10 ∷ 46 ∷ 0 ∷ 156 ∷ 50 ∷ 199 ∷ 178 ∷ 0 ∷ 139 ∷ 192 ∷ 60 ∷ 253 ∷ 0 ∷ 58 ∷ 110 ∷ 204 ∷ 82 ∷ 0 ∷ 197 ∷
-    72 ∷ 27 ∷ 242 ∷ 0 ∷ 0 ∷ 0 ∷ 0 ∷ 0 ∷ 0 ∷ 120 ∷ 0 ∷ 0 ∷ 0 ∷ 131 ∷ 249 ∷ 140 ∷ 93 ∷ 24 ∷ 0 ∷ 0 ∷ 0 ∷ 158 ∷ 15 ∷ 14 ∷
-    233 ∷ 171 ∷ 141 ∷ 135 ∷ 12 ∷ 128 ∷ 0 ∷ 0 ∷ 0 ∷ 159 ∷ 109 ∷ 244 ∷ 50 ∷ 206 ∷ 36 ∷ 98 ∷ 56 ∷ 24 ∷ 0 ∷ 0 ∷ 0 ∷ 64 ∷ 69 ∷
-    191 ∷ 161 ∷ 85 ∷ 44 ∷ 108 ∷ 226 ∷ 1 ∷ 0 ∷ 0 ∷ 128 ∷ 87 ∷ 64 ∷ 228 ∷ 54 ∷ 253 ∷ 201 ∷ 60 ∷ 111 ∷ 0 ∷ 0 ∷ 0 ∷ 0 ∷ 119 ∷
-    200 ∷ 185 ∷ 165 ∷ 95 ∷ 183 ∷ 239 ∷ 168 ∷ 25 ∷ 0 ∷ 0 ∷ 0 ∷ 178 ∷ 62 ∷ 188 ∷ 180 ∷ 122 ∷ 60 ∷ 135 ∷ 136 ∷ 128 ∷ 0 ∷
-    0 ∷ 0 ∷ 114 ∷ 102 ∷ 118 ∷ 156 ∷ 117 ∷ 16 ∷ 89 ∷ 130 ∷ 255 ∷ 255 ∷ 255 ∷ 255 ∷ 186 ∷ 157 ∷ 92 ∷ 105 ∷ 230 ∷ 72 ∷ 133 ∷
-    77 ∷ 0 ∷ 0 ∷ 0 ∷ 0 ∷ 36 ∷ 156 ∷ 46 ∷ 201 ∷ 118 ∷ 209 ∷ 225 ∷ 162 ∷ 255 ∷ 255 ∷ 255 ∷ 255 ∷ 149 ∷ 239 ∷ 99 ∷ 30 ∷ 254 ∷
-    2 ∷ 89 ∷ 223 ∷ 255 ∷ 255 ∷ 255 ∷ 255 ∷ 213 ∷ 27 ∷ 177 ∷ 170 ∷ 196 ∷ 36 ∷ 58 ∷ 37 ∷ 128 ∷ 0 ∷ 0 ∷ 0 ∷ 169 ∷ 88 ∷ 111 ∷
-    64 ∷ 57 ∷ 2 ∷ 175 ∷ 23 ∷ 24 ∷ 0 ∷ 0 ∷ 0 ∷ 218 ∷ 124 ∷ 102 ∷ 8 ∷ 211 ∷ 83 ∷ 201 ∷ 9 ∷ 25 ∷ 0 ∷ 0 ∷ 0 ∷ 222 ∷ 84 ∷ 178 ∷
-    36 ∷ 190 ∷ 151 ∷ 166 ∷ 56 ∷ 127 ∷ 0 ∷ 0 ∷ 0 ∷ 61 ∷ 154 ∷ 58 ∷ 91 ∷ 184 ∷ 84 ∷ 114 ∷ 130 ∷ 24 ∷ 0 ∷ 0 ∷ 0 ∷ 156 ∷ 113 ∷
-    200 ∷ 254 ∷ 208 ∷ 232 ∷ 63 ∷ 6 ∷ 25 ∷ 0 ∷ 0 ∷ 0 ∷ 71 ∷ 210 ∷ 205 ∷ 74 ∷ 203 ∷ 236 ∷ 64 ∷ 190 ∷ 0 ∷ 0 ∷ 0 ∷ 0 ∷ 51 ∷
-    14 ∷ 76 ∷ 101 ∷ 60 ∷ 195 ∷ 156 ∷ 189 ∷ 25 ∷ 0 ∷ 0 ∷ 0 ∷ 211 ∷ 213 ∷ 230 ∷ 61 ∷ 212 ∷ 224 ∷ 139 ∷ 93 ∷ 132 ∷ 87 ∷ 239 ∷
-    245 ∷ 80 ∷ 201 ∷ 83 ∷ 54 ∷ 137 ∷ 195 ∷ 249 ∷ 142 ∷ 24 ∷ 0 ∷ 0 ∷ 0 ∷ 202 ∷ 122 ∷ 18 ∷ 133 ∷ 124 ∷ 76 ∷ 169 ∷ 240 ∷
-    128 ∷ 0 ∷ 0 ∷ 0 ∷ 146 ∷ 231 ∷ 96 ∷ 106 ∷ 140 ∷ 207 ∷ 136 ∷ 26 ∷ 255 ∷ 255 ∷ 255 ∷ 255 ∷ 240 ∷ 30 ∷ 213 ∷ 62 ∷ 209 ∷
-    42 ∷ 176 ∷ 192 ∷ 24 ∷ 0 ∷ 0 ∷ 0 ∷ 172 ∷ 149 ∷ 18 ∷ 209 ∷ 243 ∷ 226 ∷ 70 ∷ 60 ∷ 255 ∷ 255 ∷ 255 ∷ 255 ∷ 1 ∷ 218 ∷ 2 ∷
-    145 ∷ 3 ∷ 98 ∷ 106 ∷ 184 ∷ 126 ∷ 255 ∷ 255 ∷ 255 ∷ 77 ∷ 137 ∷ 132 ∷ 191 ∷ 238 ∷ 106 ∷ 121 ∷ 17 ∷ 25 ∷ 0 ∷ 0 ∷ 0 ∷
-    186 ∷ 179 ∷ 206 ∷ 58 ∷ 26 ∷ 222 ∷ 191 ∷ 185 ∷ 255 ∷ 255 ∷ 255 ∷ 255 ∷ 70 ∷ 150 ∷ 127 ∷ 220 ∷ 85 ∷ 117 ∷ 192 ∷ 136 ∷
-    144 ∷ 255 ∷ 255 ∷ 255 ∷ 103 ∷ 25 ∷ 16 ∷ 136 ∷ 57 ∷ 74 ∷ 236 ∷ 106 ∷ 255 ∷ 255 ∷ 255 ∷ 255 ∷ 197 ∷ 172 ∷ 52 ∷ 71 ∷
-    104 ∷ 118 ∷ 29 ∷ 76 ∷ 127 ∷ 0 ∷ 0 ∷ 0 ∷ 217 ∷ 158 ∷ 196 ∷ 122 ∷ 174 ∷ 235 ∷ 29 ∷ 29 ∷ 128 ∷ 0 ∷ 0 ∷ 0 ∷ 240 ∷ 45 ∷
-    229 ∷ 56 ∷ 56 ∷ 210 ∷ 46 ∷ 132 ∷ 24 ∷ 0 ∷ 0 ∷ 0 ∷ 122 ∷ 32 ∷ 179 ∷ 243 ∷ 105 ∷ 114 ∷ 1 ∷ 148 ∷ 127 ∷ 0 ∷ 0 ∷ 0 ∷ 17 ∷
-    102 ∷ 139 ∷ 7 ∷ 22 ∷ 92 ∷ 216 ∷ 66 ∷ 127 ∷ 0 ∷ 0 ∷ 0 ∷ 238 ∷ 36 ∷ 164 ∷ 72 ∷ 57 ∷ 82 ∷ 47 ∷ 156 ∷ 0 ∷ 0 ∷ 0 ∷ 0 ∷
-    134 ∷ 207 ∷ 79 ∷ 181 ∷ 175 ∷ 56 ∷ 210 ∷ 80 ∷ 255 ∷ 255 ∷ 255 ∷ 255 ∷ 102 ∷ 112 ∷ 193 ∷ 190 ∷ 99 ∷ 169 ∷ 83 ∷ 56 ∷
-    0 ∷ 0 ∷ 0 ∷ 0 ∷ 249 ∷ 78 ∷ 41 ∷ 162 ∷ 56 ∷ 47 ∷ 74 ∷ 183 ∷ 127 ∷ 0 ∷ 0 ∷ 0 ∷ 157 ∷ 182 ∷ 180 ∷ 16 ∷ 1 ∷ 85 ∷ 23 ∷
-    139 ∷ 128 ∷ 0 ∷ 0 ∷ 0 ∷ 33 ∷ 57 ∷ 10 ∷ 160 ∷ 218 ∷ 127 ∷ 144 ∷ 249 ∷ 24 ∷ 0 ∷ 0 ∷ 0 ∷ 102 ∷ 112 ∷ 188 ∷ 153 ∷ 92 ∷
-    108 ∷ 86 ∷ 120 ∷ 25 ∷ 0 ∷ 0 ∷ 0 ∷ 45 ∷ 164 ∷ 180 ∷ 119 ∷ 238 ∷ 40 ∷ 121 ∷ 122 ∷ 127 ∷ 0 ∷ 0 ∷ 0 ∷ 93 ∷ 226 ∷ 188 ∷
-    78 ∷ 125 ∷ 35 ∷ 6 ∷ 63 ∷ 25 ∷ 0 ∷ 0 ∷ 0 ∷ 174 ∷ 28 ∷ 98 ∷ 91 ∷ 207 ∷ 125 ∷ 217 ∷ 155 ∷ 0 ∷ 0 ∷ 0 ∷ 0 ∷ 206 ∷ 177 ∷
-    232 ∷ 64 ∷ 16 ∷ 81 ∷ 209 ∷ 189 ∷ 25 ∷ 0 ∷ 0 ∷ 0 ∷ 0 ∷ 48 ∷ 218 ∷ 62 ∷ 237 ∷ 172 ∷ 121 ∷ 236 ∷ 24 ∷ 0 ∷ 0 ∷ 0 ∷ 79 ∷
-    142 ∷ 25 ∷ 83 ∷ 89 ∷ 86 ∷ 200 ∷ 168 ∷ 24 ∷ 0 ∷ 0 ∷ 0 ∷ 123 ∷ 125 ∷ 35 ∷ 171 ∷ 54 ∷ 197 ∷ 97 ∷ 180 ∷ 255 ∷ 255 ∷ 255 ∷
-    255 ∷ 19 ∷ 232 ∷ 48 ∷ 166 ∷ 227 ∷ 18 ∷ 52 ∷ 67 ∷ 255 ∷ 255 ∷ 255 ∷ 255 ∷ 137 ∷ 20 ∷ 48 ∷ 234 ∷ 101 ∷ 248 ∷ 179 ∷ 110 ∷
-    235 ∷ 255 ∷ 255 ∷ 255 ∷ 165 ∷ 243 ∷ 157 ∷ 167 ∷ 32 ∷ 252 ∷ 119 ∷ 35 ∷ 127 ∷ 0 ∷ 0 ∷ 0 ∷ 234 ∷ 150 ∷ 166 ∷ 197 ∷ 217 ∷
-    174 ∷ 242 ∷ 238 ∷ 24 ∷ 0 ∷ 0 ∷ 0 ∷ 233 ∷ 250 ∷ 6 ∷ 222 ∷ 46 ∷ 80 ∷ 113 ∷ 197 ∷ 255 ∷ 255 ∷ 255 ∷ 255 ∷ 95 ∷ 96 ∷ 99 ∷
-    253 ∷ 58 ∷ 118 ∷ 205 ∷ 159 ∷ 0 ∷ 0 ∷ 0 ∷ 0 ∷ 191 ∷ 106 ∷ 156 ∷ 152 ∷ 133 ∷ 160 ∷ 156 ∷ 4 ∷ 0 ∷ 0 ∷ 0 ∷ 0 ∷ 79 ∷ 136 ∷
-    15 ∷ 152 ∷ 172 ∷ 107 ∷ 161 ∷ 208 ∷ 127 ∷ 0 ∷ 0 ∷ 0 ∷ 36 ∷ 217 ∷ 63 ∷ 105 ∷ 154 ∷ 45 ∷ 243 ∷ 65 ∷ 128 ∷ 0 ∷ 0 ∷ 0 ∷
-    237 ∷ 43 ∷ 130 ∷ 121 ∷ 41 ∷ 249 ∷ 174 ∷ 0 ∷ 128 ∷ 0 ∷ 0 ∷ 0 ∷ 90 ∷ 41 ∷ 116 ∷ 97 ∷ 23 ∷ 222 ∷ 250 ∷ 244 ∷ 0 ∷ 0 ∷
-    0 ∷ 0 ∷ 132 ∷ 221 ∷ 188 ∷ 221 ∷ 153 ∷ 52 ∷ 150 ∷ 126 ∷ 60 ∷ 0 ∷ 0 ∷ 0 ∷ 22 ∷ 31 ∷ 230 ∷ 243 ∷ 113 ∷ 132 ∷ 212 ∷ 248 ∷
-    193 ∷ 156 ∷ 248 ∷ 101 ∷ 26 ∷ 60 ∷ 130 ∷ 137 ∷ 80 ∷ 14 ∷ 17 ∷ 54 ∷ 25 ∷ 0 ∷ 0 ∷ 0 ∷ 5 ∷ 137 ∷ 105 ∷ 243 ∷ 84 ∷ 199 ∷
-    201 ∷ 195 ∷ 24 ∷ 0 ∷ 0 ∷ 0 ∷ 75 ∷ 172 ∷ 98 ∷ 0 ∷ 79 ∷ 15 ∷ 167 ∷ 128 ∷ 2 ∷ 0 ∷ 0 ∷ 0 ∷ 2 ∷ 0 ∷ 0 ∷ 0 ∷ 240 ∷ 255 ∷
-    0 ∷ 0 ∷ 0 ∷ 0 ∷ 219 ∷ 30 ∷ 36 ∷ 90 ∷ 144 ∷ 31 ∷ 0 ∷ 192 ∷ 1 ∷ 2 ∷ 1 ∷ 0 ∷ 66 ∷ 93 ∷ 182 ∷ 217 ∷ 72 ∷ 128 ∷ 12 ∷ 139 ∷
-    123 ∷ 108 ∷ 2 ∷ 111 ∷ 249 ∷ 154 ∷ 149 ∷ 150 ∷ 60 ∷ 141 ∷ 201 ∷ 150 ∷ 149 ∷ 102 ∷ 232 ∷ 168 ∷ 109 ∷ 44 ∷ 29 ∷ 190 ∷
-    203 ∷ 243 ∷ 103 ∷ 188 ∷ 106 ∷ 41 ∷ 83 ∷ 193 ∷ 127 ∷ 105 ∷ 18 ∷ 120 ∷ 6 ∷ 0 ∷ 0 ∷ 0 ∷ 35 ∷ 0 ∷ 0 ∷ 0 ∷ 50 ∷ 0 ∷ 0 ∷
-    0 ∷ 127 ∷ 0 ∷ 0 ∷ 0 ∷ 34 ∷ 0 ∷ 0 ∷ 0 ∷ 34 ∷ 0 ∷ 0 ∷ 0 ∷ 0 ∷ 0 ∷ 0 ∷ 0 ∷ 211 ∷ 243 ∷ 28 ∷ 182 ∷ 143 ∷ 61 ∷ 33 ∷ 209 ∷
-    1 ∷ 0 ∷ 0 ∷ 0 ∷ 228 ∷ 49 ∷ 141 ∷ 200 ∷ 81 ∷ 71 ∷ 143 ∷ 100 ∷ 0 ∷ 0 ∷ 0 ∷ 0 ∷ 221 ∷ 220 ∷ 237 ∷ 239 ∷ 0 ∷ 0 ∷ 10 ∷
-    240 ∷ 86 ∷ 58 ∷ 105 ∷ 31 ∷ 121 ∷ 103 ∷ 168 ∷ 122 ∷ 85 ∷ 45 ∷ 111 ∷ 177 ∷ 55 ∷ 160 ∷ 110 ∷ 137 ∷ 142 ∷ 208 ∷ 74 ∷ 94 ∷
-    203 ∷ 207 ∷ 187 ∷ 78 ∷ 85 ∷ 83 ∷ 35 ∷ 226 ∷ 166 ∷ 57 ∷ 41 ∷ 191 ∷ 60 ∷ 35 ∷ 121 ∷ 188 ∷ 29 ∷ 220 ∷ 0 ∷ 0 ∷ 0 ∷ 0 ∷
-    210 ∷ 232 ∷ 188 ∷ 242 ∷ 54 ∷ 120 ∷ 250 ∷ 117 ∷ 143 ∷ 230 ∷ 124 ∷ 154 ∷ 160 ∷ 213 ∷ 186 ∷ 37 ∷ 77 ∷ 193 ∷ 179 ∷ 93 ∷
-    219 ∷ 16 ∷ 88 ∷ 196 ∷ 64 ∷ 2 ∷ 87 ∷ 182 ∷ 1 ∷ 0 ∷ 0 ∷ 0 ∷ 10 ∷ 0 ∷ 0 ∷ 0 ∷ 182 ∷ 57 ∷ 12 ∷ 108 ∷ 40 ∷ 187 ∷ 180 ∷
-    47 ∷ 231 ∷ 168 ∷ 124 ∷ 177 ∷ 52 ∷ 199 ∷ 152 ∷ 109 ∷ 2 ∷ 0 ∷ 0 ∷ 0 ∷ 97 ∷ 2 ∷ 4 ∷ 6 ∷ 0 ∷ 0 ∷ 0 ∷ 95 ∷ 8 ∷ 30 ∷ 3 ∷
-    82 ∷ 2 ∷ 66 ∷ 10 ∷ 6 ∷ 8 ∷ 6 ∷ 8 ∷ 22 ∷ 5 ∷ 250 ∷ 3 ∷ 115 ∷ 8 ∷ 214 ∷ 183 ∷ 152 ∷ 203 ∷ 163 ∷ 9 ∷ 226 ∷ 218 ∷ 20 ∷
-    255 ∷ 47 ∷ 0 ∷ 148 ∷ 41 ∷ 255 ∷ 7 ∷ 0 ∷ 0 ∷ 0 ∷ 104 ∷ 3 ∷ 201 ∷ 214 ∷ 112 ∷ 181 ∷ 1 ∷ 4 ∷ 74 ∷ 9 ∷ 9 ∷ 168 ∷ 22 ∷
-    3 ∷ 26 ∷ 0 ∷ 13 ∷ 8 ∷ 30 ∷ 0 ∷ 174 ∷ 0 ∷ 227 ∷ 11 ∷ 155 ∷ 56 ∷ 22 ∷ 5 ∷ 154 ∷ 3 ∷ 76 ∷ 2 ∷ 0 ∷ 0 ∷ 0 ∷ 96 ∷ 107 ∷
-    5 ∷ 9 ∷ 0 ∷ 0 ∷ 0 ∷ 113 ∷ 8 ∷ 22 ∷ 100 ∷ 164 ∷ 1 ∷ 26 ∷ 9 ∷ 228 ∷ 68 ∷ 22 ∷ 255 ∷ 146 ∷ 3 ∷ 113 ∷ 8 ∷ 22 ∷ 3 ∷ 145 ∷
-    1 ∷ 198 ∷ 8 ∷ 6 ∷ 104 ∷ 2 ∷ 4 ∷ 6 ∷ 0 ∷ 0 ∷ 0 ∷ 32 ∷ 3 ∷ 178 ∷ 130 ∷ 159 ∷ 223 ∷ 77 ∷ 8 ∷ 6 ∷ 8 ∷ 22 ∷ 12 ∷ 50 ∷ 1 ∷
-    219 ∷ 8 ∷ 6 ∷ 8 ∷ 194 ∷ 0 ∷ 0 ∷ 0 ∷ 0 ∷ 0 ∷ 0 ∷ 0 ∷ 0 ∷ []
+-- input 410: FICHIER GUITAR PRO v3.0
+abbrev input410 : List ℕ
+input410 =
+    25 ∷ 13 ∷ 70 ∷ 73 ∷ 67 ∷ 72 ∷ 73 ∷ 69 ∷ 82 ∷ 32 ∷ 71 ∷ 85 ∷ 73 ∷ 84 ∷ 65 ∷ 82 ∷ 32 ∷ 80 ∷ 82 ∷ 79 ∷ 32 ∷ 118 ∷ 51 ∷
+    46 ∷ 48 ∷ 48 ∷ 109 ∷ 245 ∷ 134 ∷ 218 ∷ 231 ∷ 106 ∷ 80 ∷ 113 ∷ 90 ∷ 16 ∷ 107 ∷ 102 ∷ 108 ∷ 120 ∷ 100 ∷ 105 ∷ 115 ∷
+    107 ∷ 112 ∷ 99 ∷ 97 ∷ 112 ∷ 107 ∷ 112 ∷ 105 ∷ 109 ∷ 19 ∷ 23 ∷ 208 ∷ 40 ∷ 16 ∷ 110 ∷ 13 ∷ 114 ∷ 115 ∷ 120 ∷ 101 ∷ 0 ∷
+    102 ∷ 103 ∷ 121 ∷ 112 ∷ 12 ∷ 120 ∷ 102 ∷ 9 ∷ 103 ∷ 199 ∷ 197 ∷ 142 ∷ 236 ∷ 24 ∷ 98 ∷ 104 ∷ 13 ∷ 0 ∷ 110 ∷ 121 ∷ 109 ∷
+    109 ∷ 99 ∷ 114 ∷ 106 ∷ 116 ∷ 107 ∷ 160 ∷ 107 ∷ 119 ∷ 102 ∷ 103 ∷ 119 ∷ 102 ∷ 108 ∷ 13 ∷ 120 ∷ 121 ∷ 39 ∷ 59 ∷ 102 ∷
+    119 ∷ 13 ∷ 112 ∷ 97 ∷ 114 ∷ 105 ∷ 103 ∷ 11 ∷ 102 ∷ 112 ∷ 99 ∷ 122 ∷ 106 ∷ 99 ∷ 114 ∷ 156 ∷ 160 ∷ 142 ∷ 72 ∷ 5 ∷ 118 ∷
+    13 ∷ 32 ∷ 118 ∷ 122 ∷ 177 ∷ 253 ∷ 7 ∷ 43 ∷ 22 ∷ 104 ∷ 117 ∷ 116 ∷ 120 ∷ 101 ∷ 98 ∷ 105 ∷ 106 ∷ 102 ∷ 108 ∷ 101 ∷ 114 ∷
+    117 ∷ 99 ∷ 97 ∷ 108 ∷ 120 ∷ 109 ∷ 120 ∷ 97 ∷ 108 ∷ 100 ∷ 172 ∷ 173 ∷ 55 ∷ 125 ∷ 21 ∷ 117 ∷ 102 ∷ 118 ∷ 118 ∷ 117 ∷
+    105 ∷ 105 ∷ 116 ∷ 100 ∷ 122 ∷ 122 ∷ 110 ∷ 101 ∷ 113 ∷ 105 ∷ 104 ∷ 117 ∷ 122 ∷ 113 ∷ 104 ∷ 109 ∷ 159 ∷ 159 ∷ 220 ∷
+    9 ∷ 0 ∷ 0 ∷ 0 ∷ 0 ∷ 0 ∷ 1 ∷ 120 ∷ 0 ∷ 0 ∷ 0 ∷ 111 ∷ 56 ∷ 33 ∷ 36 ∷ 0 ∷ 0 ∷ 0 ∷ 0 ∷ 140 ∷ 169 ∷ 27 ∷ 94 ∷ 94 ∷ 240 ∷
+    139 ∷ 204 ∷ 127 ∷ 0 ∷ 0 ∷ 0 ∷ 206 ∷ 81 ∷ 89 ∷ 193 ∷ 126 ∷ 232 ∷ 227 ∷ 131 ∷ 127 ∷ 0 ∷ 0 ∷ 0 ∷ 177 ∷ 180 ∷ 254 ∷ 161 ∷
+    92 ∷ 140 ∷ 65 ∷ 99 ∷ 255 ∷ 255 ∷ 255 ∷ 255 ∷ 32 ∷ 152 ∷ 111 ∷ 72 ∷ 51 ∷ 240 ∷ 2 ∷ 234 ∷ 25 ∷ 0 ∷ 0 ∷ 0 ∷ 8 ∷ 247 ∷
+    14 ∷ 233 ∷ 157 ∷ 13 ∷ 83 ∷ 15 ∷ 127 ∷ 0 ∷ 0 ∷ 0 ∷ 205 ∷ 137 ∷ 189 ∷ 26 ∷ 136 ∷ 34 ∷ 92 ∷ 177 ∷ 127 ∷ 0 ∷ 0 ∷ 0 ∷ 227 ∷
+    127 ∷ 47 ∷ 223 ∷ 82 ∷ 137 ∷ 64 ∷ 81 ∷ 255 ∷ 255 ∷ 255 ∷ 255 ∷ 63 ∷ 26 ∷ 72 ∷ 16 ∷ 115 ∷ 45 ∷ 11 ∷ 98 ∷ 25 ∷ 0 ∷ 0 ∷
+    0 ∷ 147 ∷ 89 ∷ 45 ∷ 54 ∷ 212 ∷ 78 ∷ 6 ∷ 220 ∷ 255 ∷ 255 ∷ 255 ∷ 255 ∷ 241 ∷ 9 ∷ 123 ∷ 244 ∷ 52 ∷ 54 ∷ 97 ∷ 220 ∷ 128 ∷
+    0 ∷ 0 ∷ 0 ∷ 5 ∷ 227 ∷ 132 ∷ 224 ∷ 204 ∷ 48 ∷ 248 ∷ 193 ∷ 25 ∷ 0 ∷ 0 ∷ 0 ∷ 234 ∷ 36 ∷ 53 ∷ 26 ∷ 168 ∷ 190 ∷ 133 ∷ 73 ∷
+    127 ∷ 0 ∷ 0 ∷ 0 ∷ 232 ∷ 174 ∷ 91 ∷ 150 ∷ 192 ∷ 11 ∷ 178 ∷ 170 ∷ 25 ∷ 0 ∷ 0 ∷ 0 ∷ 74 ∷ 199 ∷ 40 ∷ 187 ∷ 99 ∷ 88 ∷ 248 ∷
+    187 ∷ 25 ∷ 0 ∷ 0 ∷ 0 ∷ 121 ∷ 56 ∷ 35 ∷ 64 ∷ 171 ∷ 80 ∷ 63 ∷ 19 ∷ 25 ∷ 0 ∷ 0 ∷ 0 ∷ 82 ∷ 79 ∷ 151 ∷ 51 ∷ 227 ∷ 9 ∷ 64 ∷
+    91 ∷ 0 ∷ 0 ∷ 0 ∷ 0 ∷ 192 ∷ 6 ∷ 115 ∷ 25 ∷ 116 ∷ 209 ∷ 95 ∷ 79 ∷ 24 ∷ 0 ∷ 0 ∷ 0 ∷ 135 ∷ 33 ∷ 177 ∷ 131 ∷ 20 ∷ 44 ∷
+    87 ∷ 170 ∷ 24 ∷ 0 ∷ 0 ∷ 0 ∷ 139 ∷ 149 ∷ 177 ∷ 111 ∷ 60 ∷ 53 ∷ 74 ∷ 186 ∷ 24 ∷ 0 ∷ 0 ∷ 0 ∷ 233 ∷ 203 ∷ 239 ∷ 162 ∷
+    13 ∷ 52 ∷ 208 ∷ 69 ∷ 24 ∷ 0 ∷ 0 ∷ 0 ∷ 82 ∷ 77 ∷ 8 ∷ 148 ∷ 159 ∷ 132 ∷ 208 ∷ 32 ∷ 128 ∷ 0 ∷ 0 ∷ 0 ∷ 15 ∷ 105 ∷ 30 ∷
+    37 ∷ 162 ∷ 199 ∷ 106 ∷ 195 ∷ 128 ∷ 0 ∷ 0 ∷ 0 ∷ 5 ∷ 217 ∷ 210 ∷ 235 ∷ 88 ∷ 110 ∷ 245 ∷ 116 ∷ 25 ∷ 0 ∷ 0 ∷ 0 ∷ 23 ∷
+    13 ∷ 84 ∷ 137 ∷ 15 ∷ 250 ∷ 18 ∷ 231 ∷ 24 ∷ 0 ∷ 0 ∷ 0 ∷ 78 ∷ 234 ∷ 49 ∷ 123 ∷ 48 ∷ 228 ∷ 74 ∷ 154 ∷ 255 ∷ 255 ∷ 255 ∷
+    255 ∷ 57 ∷ 200 ∷ 96 ∷ 112 ∷ 252 ∷ 26 ∷ 73 ∷ 71 ∷ 255 ∷ 255 ∷ 255 ∷ 255 ∷ 232 ∷ 97 ∷ 152 ∷ 175 ∷ 50 ∷ 171 ∷ 82 ∷ 251 ∷
+    25 ∷ 0 ∷ 0 ∷ 0 ∷ 165 ∷ 213 ∷ 190 ∷ 75 ∷ 106 ∷ 162 ∷ 56 ∷ 170 ∷ 25 ∷ 0 ∷ 0 ∷ 0 ∷ 74 ∷ 77 ∷ 222 ∷ 163 ∷ 40 ∷ 197 ∷ 196 ∷
+    40 ∷ 0 ∷ 0 ∷ 0 ∷ 0 ∷ 138 ∷ 66 ∷ 209 ∷ 4 ∷ 93 ∷ 19 ∷ 13 ∷ 181 ∷ 25 ∷ 0 ∷ 0 ∷ 0 ∷ 67 ∷ 225 ∷ 41 ∷ 109 ∷ 116 ∷ 106 ∷
+    39 ∷ 62 ∷ 25 ∷ 0 ∷ 0 ∷ 0 ∷ 152 ∷ 68 ∷ 192 ∷ 127 ∷ 115 ∷ 139 ∷ 254 ∷ 250 ∷ 24 ∷ 0 ∷ 0 ∷ 0 ∷ 67 ∷ 4 ∷ 238 ∷ 134 ∷ 236 ∷
+    130 ∷ 106 ∷ 49 ∷ 127 ∷ 0 ∷ 0 ∷ 0 ∷ 204 ∷ 139 ∷ 251 ∷ 200 ∷ 81 ∷ 168 ∷ 214 ∷ 133 ∷ 255 ∷ 255 ∷ 255 ∷ 255 ∷ 117 ∷ 52 ∷
+    79 ∷ 124 ∷ 76 ∷ 170 ∷ 109 ∷ 225 ∷ 128 ∷ 0 ∷ 0 ∷ 0 ∷ 136 ∷ 114 ∷ 189 ∷ 96 ∷ 82 ∷ 186 ∷ 43 ∷ 52 ∷ 24 ∷ 0 ∷ 0 ∷ 0 ∷ 75 ∷
+    164 ∷ 112 ∷ 192 ∷ 50 ∷ 149 ∷ 131 ∷ 102 ∷ 255 ∷ 255 ∷ 255 ∷ 255 ∷ 11 ∷ 45 ∷ 183 ∷ 70 ∷ 2 ∷ 226 ∷ 141 ∷ 207 ∷ 24 ∷ 0 ∷
+    0 ∷ 0 ∷ 197 ∷ 58 ∷ 46 ∷ 229 ∷ 46 ∷ 190 ∷ 37 ∷ 42 ∷ 127 ∷ 0 ∷ 0 ∷ 0 ∷ 203 ∷ 203 ∷ 183 ∷ 158 ∷ 57 ∷ 142 ∷ 157 ∷ 141 ∷
+    0 ∷ 0 ∷ 0 ∷ 0 ∷ 19 ∷ 212 ∷ 225 ∷ 222 ∷ 170 ∷ 215 ∷ 176 ∷ 211 ∷ 128 ∷ 0 ∷ 0 ∷ 0 ∷ 172 ∷ 19 ∷ 75 ∷ 187 ∷ 187 ∷ 137 ∷
+    109 ∷ 169 ∷ 0 ∷ 0 ∷ 0 ∷ 0 ∷ 238 ∷ 20 ∷ 245 ∷ 104 ∷ 189 ∷ 233 ∷ 102 ∷ 189 ∷ 0 ∷ 0 ∷ 0 ∷ 0 ∷ 208 ∷ 231 ∷ 231 ∷ 129 ∷
+    35 ∷ 229 ∷ 122 ∷ 200 ∷ 24 ∷ 0 ∷ 0 ∷ 0 ∷ 1 ∷ 15 ∷ 132 ∷ 141 ∷ 163 ∷ 241 ∷ 204 ∷ 72 ∷ 128 ∷ 0 ∷ 0 ∷ 0 ∷ 22 ∷ 24 ∷ 217 ∷
+    121 ∷ 83 ∷ 151 ∷ 71 ∷ 228 ∷ 255 ∷ 255 ∷ 255 ∷ 255 ∷ 34 ∷ 41 ∷ 248 ∷ 74 ∷ 58 ∷ 52 ∷ 175 ∷ 190 ∷ 25 ∷ 0 ∷ 0 ∷ 0 ∷ 206 ∷
+    199 ∷ 40 ∷ 226 ∷ 198 ∷ 163 ∷ 184 ∷ 244 ∷ 255 ∷ 255 ∷ 255 ∷ 255 ∷ 36 ∷ 191 ∷ 87 ∷ 38 ∷ 43 ∷ 93 ∷ 234 ∷ 85 ∷ 0 ∷ 0 ∷
+    0 ∷ 0 ∷ 220 ∷ 245 ∷ 77 ∷ 119 ∷ 174 ∷ 198 ∷ 175 ∷ 166 ∷ 255 ∷ 255 ∷ 255 ∷ 255 ∷ 83 ∷ 95 ∷ 140 ∷ 95 ∷ 177 ∷ 10 ∷ 210 ∷
+    186 ∷ 25 ∷ 0 ∷ 0 ∷ 0 ∷ 94 ∷ 29 ∷ 182 ∷ 54 ∷ 101 ∷ 102 ∷ 127 ∷ 62 ∷ 255 ∷ 255 ∷ 255 ∷ 255 ∷ 27 ∷ 18 ∷ 160 ∷ 145 ∷ 36 ∷
+    120 ∷ 42 ∷ 142 ∷ 255 ∷ 255 ∷ 255 ∷ 255 ∷ 35 ∷ 30 ∷ 75 ∷ 228 ∷ 147 ∷ 16 ∷ 217 ∷ 155 ∷ 255 ∷ 255 ∷ 255 ∷ 255 ∷ 122 ∷
+    76 ∷ 5 ∷ 65 ∷ 33 ∷ 160 ∷ 205 ∷ 185 ∷ 0 ∷ 0 ∷ 0 ∷ 0 ∷ 182 ∷ 95 ∷ 140 ∷ 181 ∷ 194 ∷ 108 ∷ 71 ∷ 47 ∷ 0 ∷ 0 ∷ 0 ∷ 0 ∷
+    36 ∷ 103 ∷ 155 ∷ 59 ∷ 73 ∷ 141 ∷ 223 ∷ 183 ∷ 128 ∷ 0 ∷ 0 ∷ 0 ∷ 45 ∷ 104 ∷ 4 ∷ 247 ∷ 143 ∷ 34 ∷ 107 ∷ 188 ∷ 25 ∷ 0 ∷
+    0 ∷ 0 ∷ 214 ∷ 170 ∷ 243 ∷ 13 ∷ 152 ∷ 242 ∷ 101 ∷ 137 ∷ 24 ∷ 0 ∷ 0 ∷ 0 ∷ 165 ∷ 126 ∷ 191 ∷ 185 ∷ 67 ∷ 148 ∷ 30 ∷ 151 ∷
+    25 ∷ 0 ∷ 0 ∷ 0 ∷ 119 ∷ 211 ∷ 137 ∷ 121 ∷ 245 ∷ 197 ∷ 170 ∷ 147 ∷ 127 ∷ 0 ∷ 0 ∷ 0 ∷ 60 ∷ 95 ∷ 194 ∷ 108 ∷ 94 ∷ 112 ∷
+    67 ∷ 79 ∷ 0 ∷ 0 ∷ 0 ∷ 0 ∷ 38 ∷ 138 ∷ 122 ∷ 39 ∷ 113 ∷ 68 ∷ 74 ∷ 33 ∷ 24 ∷ 0 ∷ 0 ∷ 0 ∷ 80 ∷ 56 ∷ 107 ∷ 76 ∷ 251 ∷ 46 ∷
+    103 ∷ 49 ∷ 3 ∷ 0 ∷ 0 ∷ 0 ∷ 1 ∷ 0 ∷ 0 ∷ 0 ∷ 169 ∷ 3 ∷ 1 ∷ 0 ∷ 0 ∷ 0 ∷ 128 ∷ 219 ∷ 166 ∷ 33 ∷ 205 ∷ 75 ∷ 96 ∷ 2 ∷ 0 ∷
+    0 ∷ 0 ∷ 229 ∷ 0 ∷ 9 ∷ 176 ∷ 211 ∷ 127 ∷ 248 ∷ 0 ∷ 97 ∷ 12 ∷ 0 ∷ 0 ∷ 0 ∷ 128 ∷ 140 ∷ 255 ∷ 196 ∷ 149 ∷ 219 ∷ 8 ∷ 2 ∷
+    1 ∷ 0 ∷ 187 ∷ 120 ∷ 24 ∷ 102 ∷ 124 ∷ 161 ∷ 18 ∷ 67 ∷ 225 ∷ 52 ∷ 74 ∷ 126 ∷ 116 ∷ 9 ∷ 242 ∷ 83 ∷ 198 ∷ 99 ∷ 65 ∷ 90 ∷
+    243 ∷ 9 ∷ 114 ∷ 109 ∷ 201 ∷ 176 ∷ 114 ∷ 31 ∷ 42 ∷ 130 ∷ 114 ∷ 84 ∷ 135 ∷ 50 ∷ 125 ∷ 200 ∷ 211 ∷ 39 ∷ 249 ∷ 224 ∷ 5 ∷
+    0 ∷ 0 ∷ 0 ∷ 50 ∷ 0 ∷ 0 ∷ 0 ∷ 59 ∷ 0 ∷ 0 ∷ 0 ∷ 127 ∷ 0 ∷ 0 ∷ 0 ∷ 45 ∷ 0 ∷ 0 ∷ 0 ∷ 50 ∷ 0 ∷ 0 ∷ 0 ∷ 161 ∷ 203 ∷ 40 ∷
+    199 ∷ 11 ∷ 139 ∷ 147 ∷ 61 ∷ 1 ∷ 0 ∷ 0 ∷ 0 ∷ 1 ∷ 0 ∷ 0 ∷ 0 ∷ 17 ∷ 138 ∷ 76 ∷ 119 ∷ 253 ∷ 221 ∷ 233 ∷ 129 ∷ 0 ∷ 0 ∷
+    0 ∷ 0 ∷ 115 ∷ 2 ∷ 68 ∷ 192 ∷ 0 ∷ 0 ∷ 0 ∷ 0 ∷ 0 ∷ 0 ∷ 0 ∷ 0 ∷ 0 ∷ 0 ∷ 0 ∷ 0 ∷ []
 
 pub record AsTheOracle : Type 0 where
   pub of221 : summary (run scored input221 0)
@@ -465,10 +462,10 @@ pub record AsTheOracle : Type 0 where
   pub of64 : summary (run scored input64 0)
       ≡ 963 ∷ 1 ∷ 1 ∷ 0 ∷ 0 ∷ 0 ∷ 0 ∷ 1 ∷ 1 ∷ 0 ∷ 0 ∷ 0 ∷ 0 ∷ 0 ∷ 0 ∷ 0 ∷ 0 ∷ 0 ∷ 0 ∷ 0 ∷ 0 ∷ 0 ∷ 0 ∷ 0 ∷ 0 ∷ 0 ∷ 0 ∷ 0 ∷
       0 ∷ 0 ∷ []
-  pub of217 : summary (run scored input217 0)
-      ≡ 1219 ∷ 2 ∷ 2 ∷ 6 ∷ 14 ∷ 0 ∷ 0 ∷ 2 ∷ 2 ∷ 6 ∷ 14 ∷ 0 ∷ 0 ∷ 1 ∷ 1 ∷ 0 ∷ 0 ∷ 0 ∷ 0 ∷ 0 ∷ 0 ∷ 0 ∷ 0 ∷ 0 ∷ 0 ∷ 0 ∷ 2 ∷ 0 ∷
+  pub of410 : summary (run scored input410 0)
+      ≡ 1125 ∷ 3 ∷ 1 ∷ 0 ∷ 0 ∷ 0 ∷ 0 ∷ 3 ∷ 1 ∷ 0 ∷ 0 ∷ 0 ∷ 0 ∷ 1 ∷ 0 ∷ 0 ∷ 0 ∷ 0 ∷ 1 ∷ 0 ∷ 0 ∷ 0 ∷ 0 ∷ 0 ∷ 0 ∷ 0 ∷ 0 ∷ 0 ∷
       0 ∷ 0 ∷ []
 
 pub as-the-oracle : AsTheOracle
-unfolding FormatText.blank FormatText.cutLen FormatText.leadLen FormatText.keepNext FormatText.keepLen FormatText.cut FormatText.trim FormatText.rangeOf FormatText.textOf FormatText.noText FormatCount.over FormatCount.little FormatCount.asWord FormatProg.run FormatProg.bind FormatProg.turns FormatProg.whenLe FormatProg.whenEq FormatProg.has FormatProg.whenBits FormatFields.u8 FormatFields.number FormatFields.skip FormatFields.textBytes FormatFields.lessOne FormatFields.count FormatFields.stringOf FormatFields.stringPast FormatFields.fixedString FormatFields.intByteStringUnused FormatFields.intByteStringUnusedPast FormatFields.intString FormatFields.intByteString FormatFields.intByteStringPast BinSigned.signed BinSigned.unsigned ModelKinds.endingPlaceOf ModelKinds.directionOf ModelKinds.clefOf ModelKinds.rowKindOf ModelKinds.durationOf ModelKinds.techniqueOf ModelKinds.techniqueTextOf ModelKinds.dynamicOf ModelKinds.articulationOf ModelKinds.arpeggioOf ModelKinds.noteHeadOf ModelKinds.ottavaOf ModelKinds.fingerOf ModelKinds.flagOf ModelKinds.keyOf ModelKinds.endingOf ModelKinds.passesOf ModelKinds.tempoOf ModelKinds.tempoFrom ModelKinds.programOf ModelKinds.tupletOf ModelKinds.positionOf ModelKinds.heightOf CurveHeld.held CurveSlide.slideOf CurveLevel.noteLevel CurveLevel.chordOf CurveLevel.chordLevel CurveLevel.levelAfter CurveKey.percussionKey CurveBend.heightOf CurveBend.pointOf CurveBend.finish CurveBend.larger CurveBend.curveHeight SongVersion.starts SongVersion.isFamily SongVersion.isDigit SongVersion.digitsLen SongVersion.digitsFrom SongVersion.short SongVersion.unplussed SongVersion.versionNumber SongVersion.versionOf SongVersion.accepted SongVersion.version SongInfo.names SongInfo.music SongInfo.composerOf SongInfo.credits SongInfo.notices SongInfo.noInfo SongInfo.info SongInfo.tripletFeel SongInfo.lyricTrack SongInfo.lyricLine SongInfo.fiveLines SongInfo.lyrics SongSetup.equalizer SongSetup.templates SongSetup.page SongSetup.hideTempo SongSetup.octave SongSetup.tempo SongSetup.setup SongSetup.programOf SongSetup.channel SongSetup.noPort SongSetup.nextChannel SongSetup.port SongSetup.noPorts SongSetup.nextPort SongSetup.channelTable SongSetup.barNumber SongSetup.noDirections SongSetup.nextDirection SongSetup.nineteen SongSetup.directions HeaderHeader.notEmpty HeaderHeader.noCounts HeaderHeader.counts HeaderHeader.commonTime HeaderHeader.powerOfTwo HeaderHeader.timeOf HeaderHeader.time HeaderHeader.repeatCount HeaderHeader.endingByte HeaderHeader.marker HeaderHeader.fifthsOf HeaderHeader.modeOf HeaderHeader.key HeaderHeader.headerMarks HeaderHeader.beams HeaderHeader.headerTail HeaderHeader.endingOf HeaderHeader.passesOf HeaderHeader.endingNumber HeaderHeader.noHeader HeaderHeader.headerOf HeaderHeader.header TrackTrack.noTunings TrackTrack.nextTuning TrackTrack.tunings TrackTrack.noStrings TrackTrack.strings TrackTrack.numbered TrackTrack.sound TrackTrack.effect TrackTrack.staff TrackTrack.tablatureOf TrackTrack.low TrackTrack.clefOf TrackTrack.channelProgram TrackTrack.noTrack TrackTrack.trackOf TrackTrack.track NoteOptional.notNegative NoteOptional.optional NoteOptional.moreFlags NotePoints.bendPoint NotePoints.bendPoints NotePoints.bend NotePoints.whammy NotePoints.word NotePoints.pointsAt NoteMarks.noteBend NoteMarks.graceOf NoteMarks.graceFlags NoteMarks.graceNote NoteMarks.grace NoteMarks.tremolo NoteMarks.slideFlag NoteMarks.slide NoteMarks.harmonicEnd NoteMarks.noHarmonic NoteMarks.harmonic NoteMarks.trill NoteMarks.noMarks NoteMarks.marksOf NoteMarks.marks NoteMarks.noNoteEffects NoteMarks.noteEffects NoteNote.frettedByte NoteNote.ownDuration NoteNote.dynamic NoteNote.leftHand NoteNote.noHands NoteNote.hands NoteNote.percent NoteNote.accidental NoteNote.readOf NoteNote.noteEnd NoteNote.noteBy NoteNote.note NoteNote.noNote NoteNotes.stringBit NoteNotes.noNotes NoteNotes.notes BeatHead.tupletOf BeatHead.status BeatHead.tuplet BeatHead.headOf BeatHead.noHead BeatHead.head BeatChord.diagram BeatChord.oldFrets BeatChord.oldChord BeatChord.earlyChord BeatChord.chord BeatChord.chordName BeatChord.beatText BeatEffects.tappingOf BeatEffects.noTapping BeatEffects.tappingEnd BeatEffects.tapping BeatEffects.tremoloBar BeatEffects.brushOf BeatEffects.brush BeatEffects.strokeOf BeatEffects.stroke BeatEffects.noEffects BeatEffects.effectsOf BeatEffects.effectsBy BeatEffects.beatEffects BeatMix.sign BeatMix.threeSigns BeatMix.mixSound BeatMix.tempoName BeatMix.duration BeatMix.threeDurations BeatMix.tempoEnd BeatMix.mixFlags BeatMix.wah BeatMix.mixStrings BeatMix.noMix BeatMix.mixEnd BeatMix.anyGiven BeatMix.mixTempo BeatMix.mixTable BeatMix.mix BeatTail.ottavaOf BeatTail.tailByte BeatTail.tail BeatBeat.beatNotes BeatBeat.beatBy BeatBeat.beat BeatBeat.noBeat ScoreFile.opening ScoreFile.voices ScoreFile.oneHeader ScoreFile.headers ScoreFile.oneTrack ScoreFile.tracks ScoreFile.oneBeat ScoreFile.voice ScoreFile.barTrack ScoreFile.bar ScoreFile.bars ScoreFile.score ScoreFile.file ScoreSounding.sounding ScoreMembers.inOrder ScoreMembers.memberOf ScoreMembers.graceMember ScoreRows.noteMarks ScoreRows.beatMarks ScoreRows.rowArticulations ScoreRows.playedWith ScoreRows.restRow ScoreRows.chordRow ScoreRows.graceRow ScoreRows.rowsOf ScoreBars.several ScoreBars.directionAt ScoreBars.keyChanged ScoreBars.timeChanged ScoreBars.barOf ScoreBars.noBar ScoreLosses.headerLosses ScoreLosses.trackLosses ScoreLosses.readingLosses ScoreLosses.buildingLosses ScorePage.rowEntry ScorePage.trackEntry ScorePage.addHeader ScorePage.addTrack ScorePage.keepRow ScorePage.enterBar ScorePage.addBeat ScorePage.noBars ScorePage.noTracks ScorePage.noBeats ScoreScore.scored Count.ones Count.onesIn Count.trailingZeros
-as-the-oracle = record { of221 = refl; of218 = refl; of196 = refl; of223 = refl; of64 = refl; of217 = refl }
+unfolding FormatText.blank FormatText.cutLen FormatText.leadLen FormatText.keepNext FormatText.keepLen FormatText.cut FormatText.trim FormatText.rangeOf FormatText.textOf FormatText.noText FormatCount.over FormatCount.little FormatCount.asWord FormatSign.notNegative FormatProg.run FormatProg.bind FormatProg.turns FormatProg.whenLe FormatProg.whenEq FormatProg.has FormatProg.whenBits FormatFields.u8 FormatFields.number FormatFields.skip FormatFields.signByte FormatFields.textBytes FormatFields.lessOne FormatFields.count FormatFields.stringOf FormatFields.stringPast FormatFields.fixedString FormatFields.intByteStringUnused FormatFields.intByteStringUnusedPast FormatFields.intString FormatFields.intByteString FormatFields.intByteStringPast BinSigned.signed BinSigned.unsigned ModelKinds.endingPlaceOf ModelKinds.directionOf ModelKinds.clefOf ModelKinds.rowKindOf ModelKinds.durationOf ModelKinds.techniqueOf ModelKinds.techniqueTextOf ModelKinds.dynamicOf ModelKinds.articulationOf ModelKinds.arpeggioOf ModelKinds.noteHeadOf ModelKinds.ottavaOf ModelKinds.fingerOf ModelKinds.flagOf ModelKinds.keyOf ModelKinds.endingOf ModelKinds.passesOf ModelKinds.tempoOf ModelKinds.tempoFrom ModelKinds.programOf ModelKinds.tupletOf ModelKinds.positionOf ModelKinds.heightOf CurveHeld.held CurveSlide.slideOf CurveLevel.noteLevel CurveLevel.chordOf CurveLevel.chordLevel CurveLevel.levelAfter CurveKey.percussionKey CurveBend.heightOf CurveBend.pointOf CurveBend.finish CurveBend.larger CurveBend.curveHeight SongVersion.starts SongVersion.isFamily SongVersion.isDigit SongVersion.digitsLen SongVersion.digitsFrom SongVersion.short SongVersion.unplussed SongVersion.versionNumber SongVersion.versionOf SongVersion.accepted SongVersion.version SongInfo.names SongInfo.music SongInfo.composerOf SongInfo.credits SongInfo.notices SongInfo.noInfo SongInfo.info SongInfo.tripletFeel SongInfo.lyricTrack SongInfo.lyricLine SongInfo.fiveLines SongInfo.lyrics SongSetup.equalizer SongSetup.templates SongSetup.page SongSetup.hideTempo SongSetup.octave SongSetup.tempo SongSetup.setup SongSetup.programOf SongSetup.channel SongSetup.noPort SongSetup.nextChannel SongSetup.port SongSetup.noPorts SongSetup.nextPort SongSetup.channelTable SongSetup.barNumber SongSetup.noDirections SongSetup.nextDirection SongSetup.nineteen SongSetup.directions HeaderHeader.notEmpty HeaderHeader.noCounts HeaderHeader.counts HeaderHeader.commonTime HeaderHeader.powerOfTwo HeaderHeader.timeOf HeaderHeader.time HeaderHeader.repeatCount HeaderHeader.endingByte HeaderHeader.marker HeaderHeader.fifthsOf HeaderHeader.modeOf HeaderHeader.key HeaderHeader.headerMarks HeaderHeader.beams HeaderHeader.headerTail HeaderHeader.endingOf HeaderHeader.passesOf HeaderHeader.endingNumber HeaderHeader.noHeader HeaderHeader.headerOf HeaderHeader.header TrackTrack.noTunings TrackTrack.nextTuning TrackTrack.tunings TrackTrack.noStrings TrackTrack.strings TrackTrack.numbered TrackTrack.sound TrackTrack.effect TrackTrack.staff TrackTrack.tablatureOf TrackTrack.low TrackTrack.clefOf TrackTrack.channelProgram TrackTrack.noTrack TrackTrack.trackOf TrackTrack.track NoteOptional.optional NoteOptional.moreFlags NotePoints.bendPoint NotePoints.bendPoints NotePoints.bend NotePoints.whammy NotePoints.word NotePoints.pointsAt NoteMarks.noteBend NoteMarks.graceOf NoteMarks.graceFlags NoteMarks.graceNote NoteMarks.grace NoteMarks.tremolo NoteMarks.slideFlag NoteMarks.slide NoteMarks.harmonicEnd NoteMarks.noHarmonic NoteMarks.harmonic NoteMarks.trill NoteMarks.noMarks NoteMarks.marksOf NoteMarks.marks NoteMarks.noNoteEffects NoteMarks.noteEffects NoteNote.frettedByte NoteNote.ownDuration NoteNote.dynamic NoteNote.leftHand NoteNote.noHands NoteNote.hands NoteNote.percent NoteNote.accidental NoteNote.readOf NoteNote.noteEnd NoteNote.noteBy NoteNote.note NoteNote.noNote NoteNotes.stringBit NoteNotes.noNotes NoteNotes.notes BeatHead.tupletOf BeatHead.status BeatHead.tuplet BeatHead.headOf BeatHead.noHead BeatHead.head BeatChord.diagram BeatChord.oldFrets BeatChord.oldChord BeatChord.earlyChord BeatChord.chord BeatChord.chordName BeatChord.beatText BeatEffects.tappingOf BeatEffects.noTapping BeatEffects.tappingEnd BeatEffects.tapping BeatEffects.tremoloBar BeatEffects.brushOf BeatEffects.brush BeatEffects.strokeOf BeatEffects.stroke BeatEffects.noEffects BeatEffects.effectsOf BeatEffects.effectsBy BeatEffects.beatEffects BeatMix.threeSigns BeatMix.mixSound BeatMix.tempoName BeatMix.duration BeatMix.threeDurations BeatMix.tempoEnd BeatMix.mixFlags BeatMix.wah BeatMix.mixStrings BeatMix.noMix BeatMix.mixEnd BeatMix.anyGiven BeatMix.mixTempo BeatMix.mixTable BeatMix.mix BeatTail.ottavaOf BeatTail.tailByte BeatTail.tail BeatBeat.beatNotes BeatBeat.beatBy BeatBeat.beat BeatBeat.noBeat ScoreFile.opening ScoreFile.voices ScoreFile.oneHeader ScoreFile.headers ScoreFile.oneTrack ScoreFile.tracks ScoreFile.oneBeat ScoreFile.voice ScoreFile.barTrack ScoreFile.bar ScoreFile.bars ScoreFile.score ScoreFile.file ScoreSounding.sounding ScoreMembers.inOrder ScoreMembers.memberOf ScoreMembers.graceMember ScoreRows.noteMarks ScoreRows.beatMarks ScoreRows.rowArticulations ScoreRows.playedWith ScoreRows.restRow ScoreRows.chordRow ScoreRows.graceRow ScoreRows.rowsOf ScoreBars.several ScoreBars.directionAt ScoreBars.keyChanged ScoreBars.timeChanged ScoreBars.barOf ScoreBars.noBar ScoreLosses.headerLosses ScoreLosses.trackLosses ScoreLosses.readingLosses ScoreLosses.buildingLosses ScorePage.rowEntry ScorePage.trackEntry ScorePage.addHeader ScorePage.addTrack ScorePage.keepRow ScorePage.enterBar ScorePage.addBeat ScorePage.noBars ScorePage.noTracks ScorePage.noBeats ScoreScore.scored Count.ones Count.onesIn Count.trailingZeros
+as-the-oracle = record { of221 = refl; of218 = refl; of196 = refl; of223 = refl; of64 = refl; of410 = refl }

@@ -12,7 +12,7 @@ use Rattle.format.proofs.Run.{ret-ok}
 use Rattle.format.proofs.Standing.{somewhere, reads-parts, reads-ret}
 use Rattle.model.specs.declared.Time.{Time}
 use Rattle.song.specs.Version.{version}
-use Rattle.song.specs.Info.{info}
+use Rattle.song.specs.Info.{info, lyrics}
 use Rattle.song.specs.Setup.{setup, channelTable, directions}
 use Rattle.header.specs.declared.Header.{Header}
 use Rattle.header.specs.Header.{header}
@@ -33,6 +33,7 @@ pub record InOrder (k : ℕ) (P : ℕ → ℕ → Type 1) (at n : ℕ) : Type 1 
 pub record SongHas {B : Type 0} (s : List ℕ) (q : Prog B) (from : ℕ) (g : Opening) : Type 1 where
   pub version : Has s q from version
   pub info : Has s q from (info (g .version))
+  pub lyrics : Has s q from (lyrics (g .version))
   pub setup : Has s q from (setup (g .version))
   pub programs : Has s q from channelTable
   pub directions : Has s q from (directions (g .version))
@@ -100,13 +101,14 @@ module _ {B : Type 0} {s : List ℕ} {q : Prog B} {from at n : ℕ} where
   song-has : {g : Opening} → Reads s q from opening at g n → SongHas s q from g
   unfolding opening
   song-has {g} w = reads-parts _ _ w (λ v _ a w. reads-parts _ _ w (λ _ _ b w. reads-parts _ _ w (λ _ _ _ w.
-      reads-parts _ _ w (λ _ _ _ w. reads-parts _ _ w (λ _ _ c w. reads-parts _ _ w (λ _ _ d w.
+      reads-parts _ _ w (λ _ _ y w. reads-parts _ _ w (λ _ _ c w. reads-parts _ _ w (λ _ _ d w.
       reads-parts _ _ w (λ _ _ f w. reads-parts _ _ w (λ _ _ _ w.
       let z = reads-ret _ w in
       let e : v ≡ g .version = λ i. z i .version in
       record {
         version = somewhere a;
         info = somewhere (rw e at b);
+        lyrics = somewhere (rw e at y);
         setup = somewhere (rw e at c);
         programs = somewhere d;
         directions = somewhere (rw e at f);

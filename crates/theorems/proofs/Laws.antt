@@ -14,12 +14,13 @@ use Rattle.format.specs.declared.Counted.{Counted}
 use Rattle.format.specs.declared.Stop.the-variants as S
 use Rattle.format.specs.Text.{pick}
 use Rattle.format.specs.Prog.{Res, ok, stopped, run}
-use Rattle.format.specs.Alike.{Alike, Kept}
+use Rattle.format.specs.Sign.{notNegative}
+use Rattle.format.specs.Alike.{Alike, Kept, Signed}
 use Rattle.format.specs.Verdict as Ends
 use Rattle.format.specs.Verdict.{LIMIT, Verdict, whole, badCount, asVerdict, upTo, verdict}
 use Rattle.format.proofs.Run.{clash}
 use Rattle.format.proofs.Fits.{reads}
-use Rattle.format.proofs.Alike.{alike-run, kept-used, same-run}
+use Rattle.format.proofs.Alike.{alike-run, kept-used, signed-used, same-run}
 use Rattle.format.proofs.Verdict.{upto-all, verdict-short, verdict-long, verdict-whole, verdict-cut}
 use Rattle.score.specs.Score.{scored}
 use Rattle.score.specs.Reading.{Tables, Result, Score, songOf, needed, enough, filled, fileAnswer, refused, resultOf}
@@ -190,12 +191,16 @@ module _ {d : List ℕ} {x : Score} {n : ℕ} (b : Beginning d x n) where
       record { limit = b .limit; begins = (f .0, drop n e, cut, f .3, f .4) }
 
   pub kept-begins : (e : List ℕ) → n ≤ length e
-      → ((i : ℕ) → i < n → Kept scored d 0 i → getD d i 0 ≡ getD e i 0) → Beginning e x n
-  kept-begins e l same =
+      → ((i : ℕ) → i < n → Kept scored d 0 i → getD d i 0 ≡ getD e i 0)
+      → ((i : ℕ) → i < n → Signed scored d 0 i → notNegative (getD d i 0) ≡ notNegative (getD e i 0)) → Beginning e x n
+  kept-begins e l same signs =
       let w = reads scored d x n .1 (b .begins) in
       record {
         limit = b .limit;
         begins =
             reads scored e x n .0
-            (same-run scored d e n x w l (λ i k. same i (kept-used scored d 0 n i x (omega arith) w k) k));
+            (same-run scored d e n x w l (record {
+              kept = λ i k. same i (kept-used scored d 0 n i x (omega arith) w k) k;
+              signs = λ i k. signs i (signed-used scored d 0 n i x (omega arith) w k) k;
+            }));
       }

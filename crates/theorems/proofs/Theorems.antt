@@ -10,11 +10,12 @@ use lib.IntN.{ℤ}
 use Rattle.bin.specs.Signed.{signed}
 use Rattle.format.specs.declared.Counted.{Counted}
 use Rattle.format.specs.Count.{over, wordAt}
-use Rattle.format.specs.Alike.{Alike, Kept}
+use Rattle.format.specs.Sign.{notNegative}
+use Rattle.format.specs.Alike.{Alike, Kept, Signed}
 use Rattle.format.specs.Passed.{Skipped}
 use Rattle.format.specs.Yields.{Bytes}
 use Rattle.format.proofs.Fits.{begins-unique}
-use Rattle.format.proofs.Passed.{skipped-not-kept}
+use Rattle.format.proofs.Passed.{skipped-not-kept, skipped-not-signed, signed-not-kept}
 use Rattle.format.proofs.Count.{CountRefused, count-refused}
 use Rattle.model.specs.declared.Outcome.the-variants as O
 use Rattle.model.specs.Answers.{numbersOf, refusal, noRoomAnswer}
@@ -113,6 +114,13 @@ module _ {d : List ℕ} {t : Tables} {r : Result} (p : Promise d t r) where
 pub one-beginning : {d : List ℕ} {x y : Score} {n m : ℕ} → Beginning d x n → Beginning d y m → (x ≡ y) × (n ≡ m)
 one-beginning {d} {x} {y} {n} {m} b c = begins-unique scored d x y n m (b .begins) (c .begins)
 
+-- what a publisher may make of byte i of the file d in the file e: nothing; anything, where the byte is passed over; or another byte
+-- of the same sign, where the sign alone counts
+pub data Altered (d e : List ℕ) (i : ℕ) : Type 0 where
+  unaltered : getD d i 0 ≡ getD e i 0 → Altered d e i
+  overwritten : Skipped d scored 0 i → Altered d e i
+  within-sign : Signed scored d 0 i → notNegative (getD d i 0) ≡ notNegative (getD e i 0) → Altered d e i
+
 module _ {d : List ℕ} {x : Score} {n : ℕ} (b : Beginning d x n) where
   -- "Every shorter beginning is refused as truncated."
   pub shorter-is-truncated : {m : ℕ} {t : Tables} {r : Result} → m < n → Promise (take m d) t r
@@ -124,17 +132,26 @@ module _ {d : List ℕ} {x : Score} {n : ℕ} (b : Beginning d x n) where
     pub altered-after : take n d ≡ take n e → r ≡ q
     altered-after same = p .is ∙ same-reading b (after-begins b e same) t ∙ sym (o .is)
 
-    -- "or inside the first n only bytes that document 01 names as passed over": none that is kept. That none of document
-    -- 01's list is kept, item by item, is said in the crate passed (PassedOver.antt)
-    pub altered-passed-over : n ≤ length e → ((i : ℕ) → i < n → Kept scored d 0 i → getD d i 0 ≡ getD e i 0) → r ≡ q
-    altered-passed-over l same = p .is ∙ same-reading b (kept-begins b e l same) t ∙ sym (o .is)
+    -- "or inside the first n only bytes that document 01 names as passed over": none that is kept; and a mix-table value only
+    -- within its sign (document 02, n). That none of document 01's list is kept, nor what document 02 adds to it, item by item, is
+    -- said in the crate passed (PassedOver.antt)
+    pub altered-passed-over : n ≤ length e → ((i : ℕ) → i < n → Kept scored d 0 i → getD d i 0 ≡ getD e i 0)
+        → ((i : ℕ) → i < n → Signed scored d 0 i → notNegative (getD d i 0) ≡ notNegative (getD e i 0)) → r ≡ q
+    altered-passed-over l same signs = p .is ∙ same-reading b (kept-begins b e l same signs) t ∙ sym (o .is)
 
-    -- so each of the first n bytes is the same, or it is one that is passed over
-    pub altered-skipped : n ≤ length e → ((i : ℕ) → i < n → (getD d i 0 ≡ getD e i 0) ⊎ Skipped d scored 0 i) → r ≡ q
-    altered-skipped l each = altered-passed-over l (λ i h k. elim (each i h) [
-      | inl same ↦ same
-      | inr z ↦ absurd (skipped-not-kept (z .skips) i (z .from) (z .below) k)
-    ])
+    -- so each of the first n bytes is the same, or it is one that is passed over, or one whose sign alone counts and is the same
+    pub altered-skipped : n ≤ length e → ((i : ℕ) → i < n → Altered d e i) → r ≡ q
+    altered-skipped l each = altered-passed-over l
+        (λ i h k. elim (each i h) [
+          | unaltered same ↦ same
+          | overwritten z ↦ absurd (skipped-not-kept (z .skips) i (z .from) (z .below) k)
+          | within-sign x same ↦ absurd (signed-not-kept scored d 0 i x k)
+        ])
+        (λ i h k. elim (each i h) [
+          | unaltered same ↦ ap notNegative same
+          | overwritten z ↦ absurd (skipped-not-signed (z .skips) i (z .from) (z .below) k)
+          | within-sign x same ↦ same
+        ])
 
     -- files that are alike field by field: a text's bytes too may differ where the text that is handed out does not
     pub altered-alike : Alike scored d e 0 → r ≡ q
@@ -143,8 +160,9 @@ module _ {d : List ℕ} {x : Score} {n : ℕ} (b : Beginning d x n) where
 -- "Into tables of the same sizes and contents the altered file gives the same n, rows, ranges and loss counts, and all
 -- else in the answer and the tables alike."
 pub altered-is-read-alike : {d e : List ℕ} {t : Tables} {r q : Result} → Promise d t r → Promise e t q → outcomeIn r ≡ 0
-    → used r ≤ length e → ((i : ℕ) → i < used r → Kept scored d 0 i → getD d i 0 ≡ getD e i 0) → q ≡ r
-altered-is-read-alike p o h l same = sym (altered-passed-over (read-begins (one-of-seven p) h .1) p o l same)
+    → used r ≤ length e → ((i : ℕ) → i < used r → Kept scored d 0 i → getD d i 0 ≡ getD e i 0)
+    → ((i : ℕ) → i < used r → Signed scored d 0 i → notNegative (getD d i 0) ≡ notNegative (getD e i 0)) → q ≡ r
+altered-is-read-alike p o h l same signs = sym (altered-passed-over (read-begins (one-of-seven p) h .1) p o l same signs)
 
 -- ==== document 02, k
 

@@ -1,15 +1,39 @@
-//! Altered copies of a made file: damaged anywhere, or blanked only where bytes are passed over.
+//! Altered copies of a made file: damaged anywhere, or blanked only where the answer stays.
 
 use crate::dice::Dice;
 use crate::plan::REFUSED_VERSIONS;
 use crate::writer::{COUNTS, Count, Made};
+use std::ops::Range;
 
-/// A copy in which only bytes that document 01 names as passed over, and bytes after the file's
-/// end, are altered.
-pub fn blanked(made: &Made, dice: &mut Dice) -> Vec<u8> {
+/// A copy as a publisher's scrubber leaves it (document 02, n): altered is only what follows a zero
+/// byte inside a kept text, and mix-table values within their sign.
+pub fn scrubbed(made: &Made, dice: &mut Dice) -> Vec<u8> {
     let way = dice.below(4);
     let mut bytes = made.bytes.clone();
-    for at in made.passed.iter().flat_map(Clone::clone) {
+    overwrite(&mut bytes, &made.after_zeros, way, dice);
+    for at in &made.signs {
+        let any = dice.byte() & 0x7f;
+        let value = dice.pick(&[100, 0, 127, any]);
+        bytes[*at] = bytes[*at] & 0x80 | value;
+    }
+    bytes
+}
+
+/// A copy in which also the bytes that document 01 names as passed over, and bytes after the file's
+/// end, are altered.
+pub fn blanked(made: &Made, dice: &mut Dice) -> Vec<u8> {
+    let mut bytes = scrubbed(made, dice);
+    let way = dice.below(4);
+    overwrite(&mut bytes, &made.passed, way, dice);
+    if dice.percent(20) {
+        bytes.truncate(dice.within(made.used, bytes.len()));
+        bytes.extend(dice.bytes(10));
+    }
+    bytes
+}
+
+fn overwrite(bytes: &mut [u8], places: &[Range<usize>], way: usize, dice: &mut Dice) {
+    for at in places.iter().flat_map(Clone::clone) {
         bytes[at] = match way {
             0 => 0,
             1 => 0xff,
@@ -17,11 +41,30 @@ pub fn blanked(made: &Made, dice: &mut Dice) -> Vec<u8> {
             _ => dice.byte(),
         };
     }
-    if dice.percent(20) {
-        bytes.truncate(dice.within(made.used, bytes.len()));
-        bytes.extend(dice.bytes(10));
+}
+
+/// What a scrubber must leave: the first zero byte of a kept text, the sign of a mix-table value.
+#[derive(Clone, Copy, PartialEq)]
+pub enum Guarded {
+    Zero,
+    Sign,
+}
+
+/// A scrubbed copy in which one of these, where there is any, was altered too; which, and where.
+pub fn overdone(made: &Made, dice: &mut Dice) -> Option<(Vec<u8>, Guarded, usize)> {
+    let mut bytes = scrubbed(made, dice);
+    let zeros = !made.zeros.is_empty();
+    if zeros && (made.signs.is_empty() || dice.percent(50)) {
+        let at = dice.pick(&made.zeros);
+        bytes[at] = b'A';
+        return Some((bytes, Guarded::Zero, at));
     }
-    bytes
+    if made.signs.is_empty() {
+        return None;
+    }
+    let at = dice.pick(&made.signs);
+    bytes[at] ^= 0x80;
+    Some((bytes, Guarded::Sign, at))
 }
 
 pub fn damaged(made: &Made, dice: &mut Dice) -> Vec<u8> {

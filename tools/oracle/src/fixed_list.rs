@@ -2,7 +2,7 @@
 
 use crate::branches;
 use crate::cases::{self, Case};
-use crate::damage::{blanked, damaged};
+use crate::damage::{blanked, damaged, overdone, scrubbed};
 use crate::dump::dump;
 use crate::fail;
 use crate::from_source::{BRANCHES, LOSS_CODES};
@@ -24,6 +24,8 @@ const LONGEST: usize = 3_000;
 /// these leave is reached by one that is refused.
 const TIMES: usize = 2;
 const BLANKED: usize = 8;
+/// Files with zero bytes in their texts, each as it is, scrubbed and overdone (document 02, n).
+const SCRUBBED: usize = 6;
 /// Files of several bars and at least so many members, for ties, pull-offs and ottavas over bars.
 const VARIED: usize = 110;
 const VARIED_MEMBERS: usize = 8;
@@ -136,7 +138,31 @@ fn all() -> Vec<Case> {
         .into_iter()
         .chain(chosen)
         .chain(cases::telling())
+        .chain(scrubbed_copies())
         .collect()
+}
+
+fn scrubbed_copies() -> Vec<Case> {
+    let copies = |number: usize| {
+        let mut dice = dice_of(SEED + 3, number);
+        let mut plan = Plan::small(&mut dice);
+        plan.zeros = true;
+        let made = make(&plan, &mut dice);
+        let after = scrubbed(&made, &mut dice);
+        let (too_much, ..) = overdone(&made, &mut dice)?;
+        let named = [
+            ("before", made.bytes),
+            ("after", after),
+            ("overdone", too_much),
+        ];
+        Some(named.map(|(name, bytes)| Case {
+            name: format!("scrubbed-{number}-{name}"),
+            bytes,
+        }))
+    };
+    let fit = |cases: &[Case; 3]| cases[0].bytes.len() <= LONGEST;
+    let chosen = (0..).filter_map(copies).filter(fit).take(SCRUBBED);
+    chosen.flatten().collect()
 }
 
 fn blanked_pairs() -> Vec<Case> {

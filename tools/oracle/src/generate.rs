@@ -114,14 +114,18 @@ impl Maker<'_> {
         if length > 255 {
             return vec![FILL; length];
         }
-        (0..length)
+        let mut text: Vec<u8> = (0..length)
             .map(|_| match self.dice.below(6) {
                 0 if blanks => self.dice.pick(&BLANKS),
                 1 if wild => 0x80 + self.dice.below(0x20) as u8,
                 2 if wild => self.dice.pick(&[0, 0x85, 0xa0, 0xff, 1, 14, 31, 127]),
                 _ => b'a' + self.dice.below(26) as u8,
             })
-            .collect()
+            .collect();
+        if self.plan.zeros && length > 0 && self.dice.percent(50) {
+            text[self.dice.below(length)] = 0;
+        }
+        text
     }
 
     /// A field size that no one reads, a length byte, the text.
@@ -157,7 +161,7 @@ impl Maker<'_> {
         while field.len() < width {
             field.push(self.dice.byte());
         }
-        self.out.kept(&field[..kept]);
+        self.out.text(&field[..kept]);
         self.out.passed(&field[kept..]);
     }
 
@@ -224,7 +228,7 @@ impl Maker<'_> {
             self.number_from_one(&[0, 1, 1, 3, -1]);
             let text = self.text_of(length);
             self.out.size(text.len() as i32);
-            self.out.kept(&text);
+            self.out.text(&text);
         }
     }
 
@@ -551,14 +555,14 @@ impl Maker<'_> {
 
     fn mix_table(&mut self) {
         let instrument = self.byte_of(&[-1, -1, 0, 25]);
-        self.out.u8(instrument);
+        self.out.sign(instrument);
         if self.v(500) {
             self.skip(16);
         }
         let values: Vec<u8> = (0..6)
             .map(|_| self.byte_of(&[-1, -1, -1, -128, 0, 127]))
             .collect();
-        self.out.kept(&values);
+        values.iter().for_each(|value| self.out.sign(*value));
         if self.v(500) {
             let text = self.text(6);
             self.sized_text(&text, false);

@@ -83,6 +83,8 @@ pub struct Plan {
     pub rest: usize,
     /// The lowest i32 in a port, channel or lyric field: outside the Rust's domain.
     pub lowest: bool,
+    /// A zero byte in every second text.
+    pub zeros: bool,
     pub percents: [u8; FIELDS],
 }
 
@@ -130,6 +132,7 @@ impl Plan {
             lyric_lengths: vec![0; 5],
             rest: 0,
             lowest: false,
+            zeros: false,
             percents: [0; FIELDS],
         }
     }

@@ -1,7 +1,7 @@
 //! The kinds of files that `oracle make` writes.
 
 use crate::cases::{self, Case};
-use crate::damage::{blanked, damaged, refused_count};
+use crate::damage::{Guarded, blanked, damaged, overdone, refused_count, scrubbed};
 use crate::fail;
 use crate::generate::make;
 use crate::plan::Plan;
@@ -16,7 +16,7 @@ pub fn write(profile: &str, seed: u64, count: usize, folder: &Path) {
     };
     std::fs::create_dir_all(folder).unwrap_or_else(|error| fail(&error.to_string()));
     match profile {
-        "valid" | "unset" | "damaged" | "counts" | "blanked" => {
+        "valid" | "unset" | "damaged" | "counts" | "blanked" | "scrubbed" | "overdone" => {
             write_random(profile, seed, count, write)
         }
         "cuts" => write_cases(cases::cuts(), count, write),
@@ -53,6 +53,7 @@ fn write_random(profile: &str, seed: u64, count: usize, write: impl Fn(&str, &[u
         let mut dice = dice_of(seed, number);
         let mut plan = Plan::random(&mut dice, None);
         plan.lowest |= profile == "unset";
+        plan.zeros = matches!(profile, "scrubbed" | "overdone");
         let made = make(&plan, &mut dice);
         let name = format!("{profile}-{seed}-{number:05}");
         match profile {
@@ -62,9 +63,25 @@ fn write_random(profile: &str, seed: u64, count: usize, write: impl Fn(&str, &[u
                 let (bytes, which, at) = refused_count(&made, &mut dice);
                 write(&format!("{name}-which-{}-at-{at}", which as u8), &bytes);
             }
+            "overdone" => {
+                if let Some((bytes, which, at)) = overdone(&made, &mut dice) {
+                    let which = if which == Guarded::Zero {
+                        "zero"
+                    } else {
+                        "sign"
+                    };
+                    write(&format!("{name}-{which}-at-{at}-before"), &made.bytes);
+                    write(&format!("{name}-{which}-at-{at}-after"), &bytes);
+                }
+            }
             _ => {
+                let alter = if profile == "blanked" {
+                    blanked
+                } else {
+                    scrubbed
+                };
                 write(&format!("{name}-before"), &made.bytes);
-                write(&format!("{name}-after"), &blanked(&made, &mut dice));
+                write(&format!("{name}-after"), &alter(&made, &mut dice));
             }
         }
     }

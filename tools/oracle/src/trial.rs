@@ -2,7 +2,7 @@
 
 use crate::branches;
 use crate::cases;
-use crate::damage::{blanked, damaged, refused_count};
+use crate::damage::{Guarded, blanked, damaged, overdone, refused_count, scrubbed};
 use crate::dice::Dice;
 use crate::dump::dump;
 use crate::from_source::BRANCHES;
@@ -17,6 +17,8 @@ pub struct Trial {
     files: usize,
     outcomes: BTreeMap<String, usize>,
     blanked_alike: usize,
+    /// Copies with a zero byte altered, and with a sign: how many of them are told apart.
+    overdone: [(usize, usize); 2],
     findings: Vec<String>,
 }
 
@@ -30,7 +32,7 @@ pub fn dice_of(seed: u64, number: usize) -> Dice {
 const LONG: usize = 24;
 
 /// Every named file, and for each number a valid file, a beginning of it, its blanked copy, one with
-/// a count that is refused and a damaged one.
+/// a count that is refused and a damaged one; then one with zero bytes, scrubbed and overdone.
 pub fn run(seed: u64, count: usize, percent: Option<u8>) -> Trial {
     let mut trial = Trial::default();
     let long = cases::long(&mut dice_of(seed, 0), LONG);
@@ -56,6 +58,7 @@ pub fn run(seed: u64, count: usize, percent: Option<u8>) -> Trial {
         );
         trial.both(&format!("damaged {number}"), &damaged(&made, &mut dice));
         trial.refused(&format!("counts {number}"), &made, &mut dice);
+        trial.scrubbed(number, seed, percent);
     }
     trial
 }
@@ -99,6 +102,23 @@ impl Trial {
                 name,
                 &format!("the count {} at {at} is not told", which as u8),
             );
+        }
+    }
+
+    /// Document 02, n: what a scrubber may alter reaches no dump; what it must leave mostly does.
+    fn scrubbed(&mut self, number: usize, seed: u64, percent: Option<u8>) {
+        let mut dice = dice_of(seed + 1, number);
+        let mut plan = Plan::random(&mut dice, percent);
+        plan.zeros = true;
+        let made = make(&plan, &mut dice);
+        let copy = scrubbed(&made, &mut dice);
+        self.blanked(&format!("scrubbed {number}"), &made.bytes, &copy);
+        if let Some((bytes, which, _)) = overdone(&made, &mut dice) {
+            let verdict = self.both(&format!("overdone {number}"), &bytes);
+            let same = dump(&made.bytes, &judge(&made.bytes, None)) == dump(&bytes, &verdict);
+            let (told, all) = &mut self.overdone[usize::from(which == Guarded::Sign)];
+            *told += usize::from(!same);
+            *all += 1;
         }
     }
 
@@ -147,6 +167,10 @@ impl Trial {
         for (what, count) in &self.outcomes {
             println!("{what}: {count}");
         }
+        let [(zeros, with_zeros), (signs, with_signs)] = self.overdone;
+        println!(
+            "told apart: {zeros} of {with_zeros} with a zero byte altered, {signs} of {with_signs} with a sign altered"
+        );
         println!(
             "{} files, {} blanked copies alike, {} findings",
             self.files,

@@ -1,5 +1,5 @@
-//! Bytes of a file with what is known of them: which are passed over, where its counts and text
-//! sizes stand.
+//! Bytes of a file with what is known of them: which are passed over, of which the sign alone
+//! counts, where its counts and text sizes stand.
 
 use std::ops::Range;
 
@@ -35,6 +35,12 @@ pub struct Made {
     pub used: usize,
     /// What document 01 names as passed over, in order.
     pub passed: Vec<Range<usize>>,
+    /// Where the first zero byte of a kept text stands, and what follows it in the text: passed
+    /// over by document 02, n.
+    pub zeros: Vec<usize>,
+    pub after_zeros: Vec<Range<usize>>,
+    /// Where values of mix tables stand, of which the sign alone counts (document 02, n).
+    pub signs: Vec<usize>,
     pub counts: Vec<(usize, Count)>,
     /// Where the four bytes of a text's size stand.
     pub sizes: Vec<usize>,
@@ -82,12 +88,27 @@ impl Made {
         self.i32(value);
     }
 
+    /// A kept text.
+    pub fn text(&mut self, bytes: &[u8]) {
+        let start = self.bytes.len();
+        self.kept(bytes);
+        if let Some(zero) = bytes.iter().position(|byte| *byte == 0) {
+            self.zeros.push(start + zero);
+            self.after_zeros.push(start + zero + 1..self.bytes.len());
+        }
+    }
+
     pub fn content(&mut self, bytes: &[u8], kept: bool) {
         if kept {
-            self.kept(bytes)
+            self.text(bytes)
         } else {
             self.passed(bytes)
         }
+    }
+
+    pub fn sign(&mut self, value: u8) {
+        self.signs.push(self.bytes.len());
+        self.u8(value);
     }
 
     /// Where the counts of a kind stand, in order.
