@@ -11,7 +11,7 @@ use Rattle.format.specs.Count.{NEGATIVE}
 use Rattle.format.specs.Fields.{u8, u16, skip, signByte, intByteStringPast}
 use Rattle.format.specs.Alike.{Kept, Signed}
 use Rattle.note.specs.Optional.{optional}
-use Rattle.beat.specs.Mix.{threeSigns, tempoName, duration, tempoEnd, mixFlags, wah, mixStrings}
+use Rattle.beat.specs.Mix.{threeSigns, tempoName, duration, tempoEnd, mixFlags, wah, mixStrings, mixTable}
 use Rattle.beat.specs.Tail.{tailByte, tail}
 use Rattle.format.specs.Passed.{Skips, itself, first, then, StringPassed}
 use Rattle.format.proofs.Passed.{skips-first, skips-after, skips-le, stands-le}
@@ -62,7 +62,11 @@ pub wah-kept : (s : List ℕ) (at : ℕ) {v : ℕ} → 500 ≤ v → Kept (wah v
 unfolding wah whenLe u8 bind
 wah-kept s at {v = v} l = rw (le-leb 500 v l) (inl refl)
 
--- document 02, n: of three values of the mix table the signs alone count
+-- document 02, n: of the instrument, which is a mix table's first byte, and of three values the signs alone count
+pub instrument-signed : (s : List ℕ) (at v : ℕ) → Signed (mixTable v) s at at
+unfolding mixTable signByte bind
+instrument-signed s at v = inl refl
+
 pub three-signed : (s : List ℕ) (at : ℕ)
     → Signed threeSigns s at at × Signed threeSigns s at (at + 1) × Signed threeSigns s at (at + 1 + 1)
 unfolding threeSigns signByte bind

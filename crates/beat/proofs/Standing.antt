@@ -7,7 +7,7 @@ use lib.Dec.{ltb}
 use Rattle.format.specs.Text.{TextRead}
 use Rattle.format.specs.Prog.{Prog, has}
 use Rattle.format.specs.Count.{NEGATIVE}
-use Rattle.format.specs.Fields.{u8, u32, signByte, fixedString, intByteString, intByteStringUnused}
+use Rattle.format.specs.Fields.{u8, u32, fixedString, intByteString, intByteStringUnused}
 use Rattle.format.specs.Passed.{Reads, Has}
 use Rattle.format.proofs.Standing.{somewhere, reads-parts, reads-ret, reads-le, reads-gt, reads-eq, reads-ne, reads-bits}
 use Rattle.note.specs.Optional.{moreFlags}
@@ -45,9 +45,9 @@ pub record ThreeHas {B : Type 0} (s : List ℕ) (q : Prog B) (from : ℕ) : Type
   pub second : Has s q from (duration (signs .b))
   pub third : Has s q from (duration (signs .c))
 
--- a mix table: the instrument and six values, the tempo with its name, trailing flags, wah and strings
+-- a mix table, which begins with the instrument; six values, the tempo with its name, trailing flags, wah and strings
 pub record MixHas {B : Type 0} (s : List ℕ) (q : Prog B) (from v : ℕ) : Type 1 where
-  pub instrument : Has s q from signByte
+  pub table : Has s q from (mixTable v)
   pub name : Has s q from (tempoName v)
   pub tempo : ℕ
   pub paced : (k : ℕ) × (m : ℕ) × Reads s q from u32 k tempo m
@@ -102,19 +102,19 @@ module _ {B : Type 0} {s : List ℕ} {q : Prog B} {from at n : ℕ} where
 
   pub mix-has : (v flags : ℕ) {x : Mix} → Reads s q from (mix v flags) at x n → has flags 0x10 ≡ true → MixHas s q from v
   unfolding mix mixTable mixTempo mixEnd tempoEnd
-  mix-has v flags w e = reads-parts _ _ (reads-bits flags 0x10 _ _ e w) (λ _ _ i w. reads-parts _ _ w (λ _ _ _ w.
+  mix-has v flags all e = reads-parts _ _ (reads-bits flags 0x10 _ _ e all) (λ _ _ _ w. reads-parts _ _ w (λ _ _ _ w.
       reads-parts _ _ w (λ x _ a w. reads-parts _ _ w (λ y _ b w. reads-parts _ _ w (λ _ _ c w.
       reads-parts _ _ w (λ tempo _ d w. reads-parts _ _ w (λ _ _ f w. reads-parts _ _ w (λ _ _ g w.
       reads-parts _ _ w (λ _ _ h w. reads-parts _ _ w (λ _ _ k w. reads-parts _ _ w (λ _ _ l w.
       reads-parts _ _ w (λ _ _ o _. record {
-        instrument = somewhere i;
+        table = somewhere (reads-bits flags 0x10 _ _ e all);
         name = somewhere c;
         tempo = tempo;
         paced = (_, _, d);
         values = durations-has x a f;
         others = durations-has y b g;
         end = somewhere h;
-        lasting = reads-parts _ _ h (λ _ _ p _. somewhere p);
+        lasting = reads-parts _ _ h (λ _ _ i _. somewhere i);
         flags = somewhere k;
         wah = somewhere l;
         strings = somewhere o;

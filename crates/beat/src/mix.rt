@@ -37,6 +37,7 @@ struct SignsRead {
     next: Place,
 }
 
+// Whether a value of the mix table is 0 or more; nothing else of it goes on.
 fn sign_at(s: &[u8], from: Place) -> SignRead
     ensures { λ r. ⌜ Reaches signByte (now (s .entry)) from (r .given) (r .next) ⌝ }
 {
@@ -89,6 +90,7 @@ fn tempo_end(s: &[u8], from: Place, v: u32, tempo: u32) -> Place
     skip_if(s, skip_if(s, from, given, 1), given & (510 <= v), 1)
 }
 
+// Whether there is a wah byte of 0 or more.
 fn wah_at(s: &[u8], from: Place, v: u32) -> SignRead
     ensures { λ r. ⌜ Reaches (format.wah v) (now (s .entry)) from (r .given) (r .next) ⌝ }
 {

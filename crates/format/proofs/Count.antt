@@ -2,22 +2,21 @@
 use Prim.Native.Nat.{ℕ, _+_, _≤_, _<_}
 use native.Mathlib.Omega.{arith}
 use native.Mathlib.Nat.{mod-eq-of-lt}
-use native.Mathlib.Decide.{decLe, decLt}
+use native.Mathlib.Decide.{decLe}
 use mathlib.Core.Bool.{Bool, true, false}
 use mathlib.Core.Path.{_≡_, refl, ap, sym, _∙_}
 use mathlib.Core.List.{List}
-use lib.ListN.{length, getD, take, drop, length-take}
-use lib.Seq.{getD-take, take-take}
+use lib.ListN.{length, take, drop, length-take}
+use lib.Seq.{take-take}
 use lib.Dec.{leb}
 use Rattle.format.specs.declared.Counted.{Counted}
 use Rattle.format.specs.declared.Stop.the-variants as S
-use Rattle.format.specs.Text.{textOf, pick}
+use Rattle.format.specs.Text.{pick}
 use Rattle.format.specs.Count.{over, little, wordAt, asWord}
-use Rattle.format.specs.Sign.{notNegative}
-use Rattle.format.specs.Prog.{Prog, Refusal, wrongLength, wrongVersion, nothingInside, stopOf, ret, refuse, byte, pass, sign, text, counted, Res, ok, stopped, run}
+use Rattle.format.specs.Step.{Step, byte, pass, sign, text, counted, width, Handed, seen, fine, judged}
+use Rattle.format.specs.Prog.{Prog, Refusal, wrongLength, wrongVersion, nothingInside, stopOf, ret, refuse, read, Res, ok, stopped, run}
 use Rattle.format.specs.Verdict.{LIMIT, Verdict, truncated, tooLong, badCount, asVerdict, upTo, verdict}
-use Rattle.format.proofs.Run.{clash, run-ret, run-refuse, byte-goes, byte-ends, pass-goes, pass-ends, sign-goes, sign-ends, text-goes, text-ends}
-use Rattle.format.proofs.Run.{count-goes, count-over, count-ends, part-take}
+use Rattle.format.proofs.Run.{clash, run-ret, run-refuse, read-goes, read-ends, part-take, same-seen, count-goes, count-over}
 use Rattle.format.proofs.Verdict.{upto-all, verdict-short, endOf, verdict-upto}
 
 -- In the file s the program p, from a position on, comes to a count at i, whose value v is over its limit. In every file that is alike
@@ -28,12 +27,9 @@ pub record CountAt {A : Type 0} (p : Prog A) (s : List ℕ) (at : ℕ) (c : Coun
   pub value : v ≡ wordAt s i
   pub high : over c v ≡ true
   pub rest : ℕ → Prog A
-  pub comes : (t : List ℕ) → take i s ≡ take i t → run p t at ≡ run (counted c rest) t i
+  pub comes : (t : List ℕ) → take i s ≡ take i t → run p t at ≡ run (read (counted c) rest) t i
 
 -- what stands before i is the same in both
-same-byte : (s t : List ℕ) (at i : ℕ) → at < i → take i s ≡ take i t → getD s at 0 ≡ getD t at 0
-same-byte s t at i l e = sym (getD-take i s at 0 l) ∙ ap (λ (u : List ℕ). getD u at 0) e ∙ getD-take i t at 0 l
-
 same-part : (s t : List ℕ) (at m i : ℕ) → at + m ≤ i → take i s ≡ take i t → take m (drop at s) ≡ take m (drop at t)
 same-part s t at m i l e = sym (part-take i at m s l) ∙ ap (λ (u : List ℕ). take m (drop at u)) e ∙ part-take i at m t l
 
@@ -62,75 +58,56 @@ not-counted nothingInside c v i e = clash (cc)
 abbrev pub Refused : {A : Type 0} → Prog A → List ℕ → ℕ → Counted → ℕ → ℕ → Type 0
 Refused p s at c v word = (i : ℕ) × (word ≡ asWord i) × CountAt p s at c v i
 
+-- ---- one read, where what comes after it is refused for a count
+module _ {A : Type 0} (k : Step) (f : Handed k → Prog A) (s : List ℕ) (at : ℕ) (c : Counted) (v word : ℕ) where
+  -- what comes after it comes to that count
+  abbrev Later : Type 0
+  Later = run (f (seen k s at)) s (at + width k) ≡ stopped (S.Count c v word) → Refused (f (seen k s at)) s (at + width k) c v word
+
+  fine-at : at + width k ≤ length s → Later → run (read k f) s at ≡ stopped (S.Count c v word)
+      → judged k at (seen k s at) ≡ fine → Refused (read k f) s at c v word
+  fine-at d later e j =
+      let w = later (sym (read-goes s at k f d j) ∙ e) in (
+        w .0,
+        w .1,
+        step (omega arith) (w .2) (λ t h g.
+            let same = same-seen k s t at (same-part s t at (width k) (w .0) (w .2 .from) g) in
+            read-goes t at k f h (sym (ap (judged k at) same) ∙ j) ∙ rw same),
+      )
+
+-- nothing but a count is refused for what was read
+read-at : {A : Type 0} (k : Step) (f : Handed k → Prog A) (s : List ℕ) (at : ℕ) (c : Counted) (v word : ℕ) → at + width k ≤ length s
+    → Later k f s at c v word → run (read k f) s at ≡ stopped (S.Count c v word) → Refused (read k f) s at c v word
+read-at byte f s at c v word d later e = fine-at byte f s at c v word d later e refl
+read-at (pass n) f s at c v word d later e = fine-at (pass n) f s at c v word d later e refl
+read-at sign f s at c v word d later e = fine-at sign f s at c v word d later e refl
+read-at (text n) f s at c v word d later e = fine-at (text n) f s at c v word d later e refl
+read-at {A} (counted b) f s at c v word d later e = go (over b (wordAt s at)) refl
+  where
+    go : (o : Bool) → over b (wordAt s at) ≡ o → Refused (read (counted b) f) s at c v word
+    go true o =
+        let w : _≡_ {A = Res A} (stopped (S.Count b (wordAt s at) (asWord at))) (stopped (S.Count c v word)) =
+        sym (count-over s at b f d o) ∙ e in
+        let which : b ≡ c = cc in
+        let value : wordAt s at ≡ v = cc in
+        let place : asWord at ≡ word = cc in (
+          at,
+          sym place,
+          rw (← which, ← value)
+              (record { from = omega arith; there = d; value = refl; high = o; rest = f; comes = λ t g. refl }),
+        )
+    go false o = fine-at (counted b) f s at c v word d later e (rw o)
+
 pub count-at : {A : Type 0} (p : Prog A) (s : List ℕ) (at : ℕ) (c : Counted) (v word : ℕ)
     → run p s at ≡ stopped (S.Count c v word) → Refused p s at c v word
 count-at (ret x) s at c v i e = let w = run-ret s at x in clash (cc)
 count-at {A} (refuse r) s at c v i e =
     let w : _≡_ {A = Res A} (stopped (stopOf r)) (stopped (S.Count c v i)) = sym (run-refuse s at r) ∙ e in
     not-counted r c v i (cc)
-count-at (byte k) s at c v i e = elim (decLt at (length s)) [
-  | yes d ↦
-      let w = count-at (k (getD s at 0)) s (at + 1) c v i (sym (byte-goes s at k d) ∙ e) in (
-        w .0,
-        w .1,
-        step (omega arith) (w .2) (λ t h g.
-            byte-goes t at k (omega arith) ∙ rw (same-byte s t at (w .0) (omega (arith, w .2 .from)) g)),
-      )
-  | no d ↦ let w = byte-ends s at k (omega arith) in clash (cc)
+count-at (read k f) s at c v i e = elim (decLe (at + width k) (length s)) [
+  | yes d ↦ read-at k f s at c v i d (λ g. count-at (f (seen k s at)) s (at + width k) c v i g) e
+  | no d ↦ let w = read-ends s at k f (omega arith) in clash (cc)
 ]
-count-at (pass m p) s at c v i e = elim (decLe (at + m) (length s)) [
-  | yes d ↦
-      let w = count-at p s (at + m) c v i (sym (pass-goes s at m p d) ∙ e) in
-      (w .0, w .1, step (omega arith) (w .2) (λ t h g. pass-goes t at m p h))
-  | no d ↦ let w = pass-ends s at m p (omega arith) in clash (cc)
-]
-count-at (sign k) s at c v i e = elim (decLt at (length s)) [
-  | yes d ↦
-      let w = count-at (k (notNegative (getD s at 0))) s (at + 1) c v i (sym (sign-goes s at k d) ∙ e) in (
-        w .0,
-        w .1,
-        step (omega arith) (w .2) (λ t h g.
-            sign-goes t at k (omega arith) ∙ rw (same-byte s t at (w .0) (omega (arith, w .2 .from)) g)),
-      )
-  | no d ↦ let w = sign-ends s at k (omega arith) in clash (cc)
-]
-count-at (text m k) s at c v i e = elim (decLe (at + m) (length s)) [
-  | yes d ↦
-      let w = count-at (k (textOf at (take m (drop at s)))) s (at + m) c v i (sym (text-goes s at m k d) ∙ e) in (
-        w .0,
-        w .1,
-        step (omega arith) (w .2) (λ t h g.
-            text-goes t at m k h ∙ rw (same-part s t at m (w .0) (w .2 .from) g)),
-      )
-  | no d ↦ let w = text-ends s at m k (omega arith) in clash (cc)
-]
-count-at {A} (counted b k) s at c v i e = elim (decLe (at + 4) (length s)) [
-  | yes d ↦ judged d (over b (wordAt s at)) refl (λ g. count-at (k (wordAt s at)) s (at + 4) c v i g)
-  | no d ↦ let w = count-ends s at b k (omega arith) in clash (cc)
-]
-  where
-    judged : at + 4 ≤ length s → (o : Bool) → over b (wordAt s at) ≡ o
-        → (run (k (wordAt s at)) s (at + 4) ≡ stopped (S.Count c v i) → Refused (k (wordAt s at)) s (at + 4) c v i)
-        → Refused (counted b k) s at c v i
-    judged d true o later =
-        let w : _≡_ {A = Res A} (stopped (S.Count b (wordAt s at) (asWord at))) (stopped (S.Count c v i)) =
-        sym (count-over s at b k d o) ∙ e in
-        let which : b ≡ c = cc in
-        let value : wordAt s at ≡ v = cc in
-        let place : asWord at ≡ i = cc in (
-          at,
-          sym place,
-          rw (← which, ← value)
-              (record { from = omega arith; there = d; value = refl; high = o; rest = k; comes = λ t g. refl }),
-        )
-    judged d false o later =
-        let w = later (sym (count-goes s at b k d o) ∙ e) in (
-          w .0,
-          w .1,
-          step (omega arith) (w .2) (λ t h g.
-              let same : wordAt s at ≡ wordAt t at = ap little (same-part s t at 4 (w .0) (w .2 .from) g) in
-              count-goes t at b k h (sym (ap (over b) same) ∙ o) ∙ rw same),
-        )
 
 -- ---- of a whole file
 
@@ -201,7 +178,7 @@ module _ {A : Type 0} (p : Prog A) (s : List ℕ) (c : Counted) (v i : ℕ) (e :
     unfolding upTo
     enough h = omega (arith, within .0, length-take LIMIT t)
 
-    comes-too : take i s ≡ take i t → run p (upTo LIMIT t) 0 ≡ run (counted c (found .rest)) (upTo LIMIT t) i
+    comes-too : take i s ≡ take i t → run p (upTo LIMIT t) 0 ≡ run (read (counted c) (found .rest)) (upTo LIMIT t) i
     unfolding upTo
     comes-too g =
         let l : i ≤ LIMIT = omega (arith, within .0) in
@@ -216,7 +193,7 @@ module _ {A : Type 0} (p : Prog A) (s : List ℕ) (c : Counted) (v i : ℕ) (e :
         ends = λ t g h.
             let short : length t ≤ LIMIT = omega (arith, within .0) in
             verdict-short p t short
-            ∙ rw (rw (upto-all LIMIT t short) at (comes-too t g) ∙ count-ends t i c (found .rest) h);
+            ∙ rw (rw (upto-all LIMIT t short) at (comes-too t g) ∙ read-ends t i (counted c) (found .rest) h);
         refuses = λ t g h o.
             verdict-upto p t
             ∙ rw (

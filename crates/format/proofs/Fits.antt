@@ -8,13 +8,10 @@ use mathlib.Core.Path.{_≡_, ap, sym, _∙_}
 use mathlib.Core.List.{List, _∷_, _++_, append-assoc}
 use lib.ListN.{length, getD, take, drop, length-append, length-take, length-drop, take-append-drop}
 use lib.Seq.{slice, slice-cons, slice-empty, drop-drop, drop-at, take-at, drop-cons, length-take-le}
-use Rattle.format.specs.Text.{textOf}
-use Rattle.format.specs.Count.{over, little, wordAt}
-use Rattle.format.specs.Sign.{notNegative}
-use Rattle.format.specs.Prog.{Prog, ret, refuse, byte, pass, sign, text, counted, ok, run}
-use Rattle.format.specs.Fits.{Fits, fit-ret, fit-byte, fit-pass, fit-sign, fit-text, fit-count, Begins}
-use Rattle.format.proofs.Run.{part-take, ret-ok, refuse-ok, byte-ok, pass-ok, sign-ok, text-ok, count-ok, run-ret, run-within}
-use Rattle.format.proofs.Run.{byte-goes, pass-goes, sign-goes, text-goes, count-goes}
+use Rattle.format.specs.Step.{width, handed, seen, judged}
+use Rattle.format.specs.Prog.{Prog, ret, refuse, read, ok, run}
+use Rattle.format.specs.Fits.{Fits, fit-ret, fit-read, Begins}
+use Rattle.format.proofs.Run.{part-take, ret-ok, refuse-ok, read-ok, run-ret, read-goes, run-within}
 
 part-length : (at m : ℕ) (s : List ℕ) → at + m ≤ length s → length (take m (drop at s)) ≡ m
 part-length at m s h = simp (length-take, length-drop) (omega arith)
@@ -32,41 +29,16 @@ run-fits (ret x) s at n a h e =
     let w = ret-ok s at n a x e in
     rw (← (w .0), ← (w .1), slice-empty at s) fit-ret
 run-fits (refuse r) s at n a h e = refuse-ok s at n a r e
-run-fits (byte k) s at n a h e =
-    let w = byte-ok s at n a k e in
-    let v = run-within (k (getD s at 0)) s (at + 1) n a (omega arith) (w .1) in
-    rw (slice-next at n s (omega arith) (v .1)) (fit-byte (run-fits (k (getD s at 0)) s (at + 1) n a (omega arith) (w .1)))
-run-fits (pass m p) s at n a h e =
-    let w = pass-ok s at n a m p e in
-    let v = run-within p s (at + m) n a (omega arith) (w .1) in
-    rw (slice-split at m n s (v .0)) (fit-pass (take m (drop at s)) (part-length at m s (w .0)) (run-fits p s (at + m) n a (omega arith) (w .1)))
-run-fits (sign k) s at n a h e =
-    let w = sign-ok s at n a k e in
-    let v = run-within (k (notNegative (getD s at 0))) s (at + 1) n a (omega arith) (w .1) in
-    rw (slice-next at n s (omega arith) (v .1)) (fit-sign (run-fits (k (notNegative (getD s at 0))) s (at + 1) n a (omega arith) (w .1)))
-run-fits (text m k) s at n a h e =
-    let w = text-ok s at n a m k e in
-    let t = textOf at (take m (drop at s)) in
-    let v = run-within (k t) s (at + m) n a (omega arith) (w .1) in
-    rw (slice-split at m n s (v .0))
-    (fit-text (take m (drop at s)) (part-length at m s (w .0)) (run-fits (k t) s (at + m) n a (omega arith) (w .1)))
-run-fits (counted c k) s at n a h e =
-    let w = count-ok s at n a c k e in
-    let v = run-within (k (wordAt s at)) s (at + 4) n a (w .0) (w .2) in
-    rw (slice-split at 4 n s (v .0))
-    (fit-count (take 4 (drop at s)) (part-length at 4 s (w .0)) (w .1) (run-fits (k (wordAt s at)) s (at + 4) n a (w .0) (w .2)))
+run-fits (read k f) s at n a h e =
+    let w = read-ok s at n a k f e in
+    let v = run-within (f (seen k s at)) s (at + width k) n a (w .0) (w .2) in
+    rw (slice-split at (width k) n s (v .0))
+    (fit-read (take (width k) (drop at s)) (part-length at (width k) s (w .0)) (w .1)
+    (run-fits (f (seen k s at)) s (at + width k) n a (w .0) (w .2)))
 
 -- ---- what fits is read: l stands at a position of s, with post after it
 Stands : List ℕ → ℕ → List ℕ → List ℕ → Type 0
 Stands s at l post = (at ≤ length s) × (drop at s ≡ l ++ post)
-
-stands-byte : (s : List ℕ) (at b : ℕ) (t post : List ℕ) → Stands s at (b ∷ t) post → (at < length s) × (getD s at 0 ≡ b) × Stands s (at + 1) t post
-unfolding Stands
-stands-byte s at b t post h =
-    let l = ap length (h .1) in
-    let k : at < length s = omega (arith, length-drop at s) in
-    let d = sym (drop-cons s at 0 k) ∙ h .1 in
-    (k, cc, (omega arith, rw (add-one at) (cc)))
 
 stands-part : (s : List ℕ) (at n : ℕ) (u t post : List ℕ) → length u ≡ n → Stands s at (u ++ t) post → (at + n ≤ length s) × (take n (drop at s) ≡ u) × Stands s (at + n) t post
 unfolding Stands
@@ -77,22 +49,11 @@ stands-part s at n u t post g h =
 
 fits-run : {A : Type 0} {p : Prog A} {at : ℕ} {l : List ℕ} {a : A} → Fits p at l a → (s post : List ℕ) → Stands s at l post → run p s at ≡ ok a (at + length l)
 fits-run (fit-ret {a = a} {at = at}) s post h = rw add-zero (run-ret s at a)
-fits-run (fit-byte {k = k} {at = at} {b = b} {t = t} {a = a} f) s post h =
-    let w = stands-byte s at b t post h in
-    byte-goes s at k (w .0) ∙ rw (w .1) (fits-run f s post (w .2) ∙ ap (λ (m : ℕ). ok a m) (omega arith))
-fits-run (fit-pass {p = p} {at = at} {n = n} u {t = t} {a = a} g f) s post h =
-    let w = stands-part s at n u t post g h in
-    pass-goes s at n p (w .0) ∙ fits-run f s post (w .2) ∙ ap (λ (m : ℕ). ok a m) (omega (arith, length-append u t))
-fits-run (fit-sign {k = k} {at = at} {b = b} {t = t} {a = a} f) s post h =
-    let w = stands-byte s at b t post h in
-    sign-goes s at k (w .0) ∙ rw (w .1) (fits-run f s post (w .2) ∙ ap (λ (m : ℕ). ok a m) (omega arith))
-fits-run (fit-text {k = k} {at = at} {n = n} u {t = t} {a = a} g f) s post h =
-    let w = stands-part s at n u t post g h in
-    text-goes s at n k (w .0) ∙ rw (w .1) (fits-run f s post (w .2) ∙ ap (λ (m : ℕ). ok a m) (omega (arith, length-append u t)))
-fits-run (fit-count {c = c} {k = k} {at = at} u {t = t} {a = a} g o f) s post h =
-    let w = stands-part s at 4 u t post g h in
-    count-goes s at c k (w .0) (ap (λ (l : List ℕ). over c (little l)) (w .1) ∙ o)
-    ∙ rw (w .1) (fits-run f s post (w .2) ∙ ap (λ (m : ℕ). ok a m) (omega (arith, length-append u t)))
+fits-run (fit-read {k = k} {f = f} {at = at} u {t = t} {a = a} g o r) s post h =
+    let w = stands-part s at (width k) u t post g h in
+    let same : seen k s at ≡ handed k at u = ap (handed k at) (w .1) in
+    read-goes s at k f (w .0) (ap (judged k at) same ∙ o)
+    ∙ rw same (fits-run r s post (w .2) ∙ ap (λ (m : ℕ). ok a m) (omega (arith, length-append u t)))
 
 -- a program reads a file exactly where a beginning of it fits
 pub reads : {A : Type 0} (p : Prog A) (s : List ℕ) (a : A) (n : ℕ) → run p s 0 ≡ ok a n ↔ Begins p s a n

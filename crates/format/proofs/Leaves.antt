@@ -1,4 +1,4 @@
--- What the code of a leaf shows: each kind of field at a position, where its bytes are there and where they end.
+-- What the code of a leaf shows: each step of field at a position, where its bytes are there and where they end.
 use Prim.Native.Nat.{ℕ, zero, suc, _+_, _*_, _≤_, _<_}
 use native.Mathlib.Omega.{arith}
 use native.Mathlib.Numerals.{add-one}
@@ -18,11 +18,12 @@ use Rattle.format.specs.declared.Place.the-variants.{At, Stopped}
 use Rattle.format.specs.declared.Place.{Place}
 use Rattle.format.specs.Count.{NEGATIVE, limitOf, over, little, wordAt, asWord}
 use Rattle.format.specs.Sign.{notNegative}
+use Rattle.format.specs.Step.{byte, pass, counted}
 use Rattle.format.specs.Prog.{Prog, ret, ok, stopped, run, bind}
 use Rattle.format.specs.Place.{resume, reached, Reaches, Gives}
 use Rattle.format.specs.Fields.{u8, number, u16, u32, skip, signByte, count}
 use Rattle.format.proofs.Rules.{starting, stopping, returned, returned-at}
-use Rattle.format.proofs.Run.{run-bind, run-ret, byte-goes, byte-ends, pass-goes, pass-ends, count-goes, count-over, count-ends, clash}
+use Rattle.format.proofs.Run.{run-bind, run-ret, read-goes, read-ends, byte-goes, count-goes, count-over, clash}
 
 -- what a leaf returns: from a known position, to another or to the end of the bytes
 came : {A : Type 0} {p : Prog A} {none a : A} {s : List ℕ} {from : Place} {at n : ℕ} → from ≡ At at → run p s at ≡ ok a n → Gives p none s from a (At n)
@@ -37,7 +38,7 @@ run-u8 s at h = byte-goes s at (λ b. ret b) h ∙ run-ret s (at + 1) (getD s at
 
 u8-short : (s : List ℕ) (at : ℕ) → length s ≤ at → run u8 s at ≡ stopped Ends
 unfolding u8
-u8-short s at h = byte-ends s at (λ b. ret b) h
+u8-short s at h = read-ends s at byte (λ b. ret b) (omega arith)
 
 module _ {s : List ℕ} {from : Place} {at : ℕ} (e : from ≡ At at) where
   pub u8-goes : at < length s → Gives u8 0 s from (getD s at 0) (At (at + 1))
@@ -48,11 +49,11 @@ module _ {s : List ℕ} {from : Place} {at : ℕ} (e : from ≡ At at) where
 
   pub skip-goes : (n : ℕ) → at + n ≤ length s → Gives (skip n) tt s from tt (At (at + n))
   unfolding skip
-  skip-goes n h = came e (pass-goes s at n (ret tt) h ∙ run-ret s (at + n) tt)
+  skip-goes n h = came e (read-goes s at (pass n) (λ _. ret tt) h refl ∙ run-ret s (at + n) tt)
 
   pub skip-ends : (n : ℕ) → length s < at + n → Gives (skip n) tt s from tt (Stopped Ends)
   unfolding skip
-  skip-ends n h = ended e (pass-ends s at n (ret tt) h)
+  skip-ends n h = ended e (read-ends s at (pass n) (λ _. ret tt) h)
 
 -- the code reads the byte and hands its sign on
 sign-run : (s : List ℕ) (from : Place) → resume signByte s from ≡ resume (bind u8 (λ b. ret (notNegative b))) s from
@@ -158,7 +159,7 @@ module _ {s : List ℕ} {from same next : Place} {at v : ℕ} (c : Counted) (e :
   unfolding count
   count-cut g =
       let w = word-cut s at (rw g at word) in
-      stopping (starting e (record { reaches = count-ends s at c (λ x. ret x) (w .0) ∙ rw (g, w .1) }))
+      stopping (starting e (record { reaches = read-ends s at (counted c) (λ x. ret x) (w .0) ∙ rw (g, w .1) }))
 
   module _ {n : ℕ} (g : next ≡ At n) where
     pub count-read : over c v ≡ false → Gives (count c) 0 s from v next

@@ -5,14 +5,15 @@ use native.Mathlib.Decide.{decLe}
 use mathlib.Core.Logic.{inl, inr}
 use mathlib.Core.Path.{_≡_, refl}
 use mathlib.Core.List.{List}
-use lib.ListN.{getD}
+use lib.ListN.{getD, take, drop}
 use Rattle.format.specs.Text.{zeroAt}
-use Rattle.format.specs.Prog.{Prog, ret, refuse, byte, pass, sign, text, counted, ok, run, bind}
-use Rattle.format.specs.Alike.{Kept, Signed}
-use Rattle.format.specs.Fields.{u8, number, u32, skip, signByte, textBytes, MAXSTRING, stringPast, fixedString, lessOne}
+use Rattle.format.specs.Step.{pass, text}
+use Rattle.format.specs.Prog.{Prog, ret, refuse, read, ok, run, bind}
+use Rattle.format.specs.Alike.{Kept}
+use Rattle.format.specs.Fields.{u8, number, u32, skip, textBytes, MAXSTRING, stringPast, fixedString, lessOne}
 use Rattle.format.specs.Fields.{intByteString, intByteStringPast, intByteStringUnusedPast}
-use Rattle.format.proofs.Run.{ret-ok, pass-ok}
-use Rattle.format.specs.Passed.{Skips, here, past, after-byte, after-zero, after-text, Stands, StringPassed}
+use Rattle.format.proofs.Run.{ret-ok, read-ok, first-byte}
+use Rattle.format.specs.Passed.{Skips, here, later, Stands, StringPassed}
 use Rattle.format.proofs.Passed.{skips-after, skips-le, stands-skips, keeps-first}
 
 -- three programs, one after another
@@ -21,17 +22,17 @@ bind-bind : {A B C : Type 0} (p : Prog A) (g : A → Prog B) (f : B → Prog C)
 unfolding bind
 bind-bind (ret a) g f = refl
 bind-bind (refuse r) g f = refl
-bind-bind (byte k) g f = λ i. byte (λ b. bind-bind (k b) g f i)
-bind-bind (pass n p) g f = λ i. pass n (bind-bind p g f i)
-bind-bind (sign k) g f = λ i. sign (λ b. bind-bind (k b) g f i)
-bind-bind (text n k) g f = λ i. text n (λ t. bind-bind (k t) g f i)
-bind-bind (counted c k) g f = λ i. counted c (λ v. bind-bind (k v) g f i)
+bind-bind (read k h) g f = λ i. read k (λ v. bind-bind (h v) g f i)
+
+-- the bytes that a read passes over, whatever comes after it
+pass-here : {A : Type 0} {s : List ℕ} {at : ℕ} (n : ℕ) {f : Unit → Prog A} → Skips s at n (read (pass n) f) at
+pass-here n = here {step = pass n} (refl, refl)
 
 -- ---- what a field of known width is followed by
 pub next-byte : {A : Type 0} {s : List ℕ} {k n at : ℕ} (f : ℕ → Prog A)
     → ((b : ℕ) → Skips s k n (f b) (at + 1)) → Skips s k n (bind u8 f) at
 unfolding u8 bind
-next-byte f h = after-byte (h _)
+next-byte f h = later (h _)
 
 pub next-number : {A : Type 0} {s : List ℕ} {k n at : ℕ} (w : ℕ) (f : ℕ → Prog A)
     → ((r : ℕ) → Skips s k n (f r) (at + w)) → Skips s k n (bind (number w) f) at
@@ -47,40 +48,42 @@ next-number {at = at} (suc w) f h =
 pub next-skip : {A : Type 0} {s : List ℕ} {k n at : ℕ} (m : ℕ) (f : Unit → Prog A)
     → Skips s k n (f tt) (at + m) → Skips s k n (bind (skip m) f) at
 unfolding skip bind
-next-skip m f h = past h
+next-skip m f h = later h
 
 -- a skip that was read ends n bytes on
 pub skip-ok : (s : List ℕ) (at n m : ℕ) → run (skip n) s at ≡ ok tt m → at + n ≡ m
 unfolding skip
-skip-ok s at n m e = ret-ok s (at + n) m tt tt (pass-ok s at m tt n (ret tt) e .1) .1
+skip-ok s at n m e = ret-ok s (at + n) m tt tt (read-ok s at m tt (pass n) (λ _. ret tt) e .2) .1
 
 module _ {s : List ℕ} {at : ℕ} where
   -- "Every byte a `skip` passes"
   pub skip-passed : (n : ℕ) → Skips s at n (skip n) at
   unfolding skip
-  skip-passed n = here
+  skip-passed n = pass-here n
 
   -- the contents of a string whose length byte alone counts
   pub unused-passed : Skips s (at + 4 + 1) (getD s (at + 4) 0) intByteStringUnusedPast at
   unfolding intByteStringUnusedPast skip u8 bind
-  unused-passed = past (after-byte here)
+  unused-passed = rw (← (first-byte s (at + 4))) (later (later (pass-here _)))
 
   -- "the length byte inside `int_byte_string`"
   pub length-byte-passed : Skips s (at + 4) 1 intByteString at
   unfolding intByteString skip bind
-  length-byte-passed = next-number 4 _ (λ _. here)
+  length-byte-passed = next-number 4 _ (λ _. pass-here 1)
 
   -- "bytes of a fixed field past its stated length"
   pub fixed-passed : (width : ℕ) → getD s at 0 ≤ width
       → Skips s (at + 1 + getD s at 0) (width - getD s at 0) (fixedString width) at
   unfolding fixedString textBytes skip u8 bind
-  fixed-passed width l = after-byte (skips-le _ _ l (after-text here))
+  fixed-passed width l =
+      let stated : getD (take 1 (drop at s)) 0 0 ≤ width = rw (first-byte s at) l in
+      rw (← (first-byte s at)) (later (skips-le _ _ stated (later (pass-here _))))
 
 -- document 02, n: of a kept text, of n bytes, what follows its first zero byte; as far as that byte, and with it, each byte is kept
 module _ (s : List ℕ) (at n : ℕ) where
   pub after-zero-passed : zeroAt s at n < at + n → Skips s (zeroAt s at n + 1) (at + n - (zeroAt s at n + 1)) (textBytes n) at
   unfolding textBytes
-  after-zero-passed l = after-zero {m = n} {at = at} refl (omega arith)
+  after-zero-passed l = here {step = text n} (refl, omega arith)
 
   pub text-kept : (i : ℕ) → at ≤ i → i < at + n → i ≤ zeroAt s at n → Kept (textBytes n) s at i
   unfolding textBytes
@@ -95,16 +98,11 @@ number-kept (suc w) s at i l h = elim (decLe i at) [
   | no d ↦ inr (keeps-first (number w) _ s (at + 1) i (number-kept w s (at + 1) i (omega arith) (omega arith)))
 ]
 
--- document 02, n: of a value of which the sign alone counts
-pub sign-signed : (s : List ℕ) (at : ℕ) → Signed signByte s at at
-unfolding signByte
-sign-signed s at = inl refl
-
 -- of a string with a size the length byte inside, and the contents, of size less one
 module _ {s : List ℕ} {at : ℕ} where
   size-length-passed : Skips s (at + 4) 1 intByteStringPast at
   unfolding intByteStringPast skip bind
-  size-length-passed = next-number 4 _ (λ _. here)
+  size-length-passed = next-number 4 _ (λ _. pass-here 1)
 
   size-contents-passed : (size : ℕ) → run u32 s at ≡ ok size (at + 4) → lessOne size ≤ MAXSTRING
       → Skips s (at + 4 + 1) (lessOne size) intByteStringPast at

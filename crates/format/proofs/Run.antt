@@ -1,57 +1,43 @@
 -- What holds of every run: a bind, each step by its test, where it ends, and the file cut before that.
 use Prim.Native.Nat.{ℕ, zero, suc, _+_, _≤_, _<_}
 use native.Mathlib.Omega.{arith}
-use native.Mathlib.Decide.{decLe, decLt}
+use native.Mathlib.Decide.{decLe}
+use native.Mathlib.Nat.{add-zero}
 use mathlib.Core.Path.{_≡_, refl, ap, _∙_}
 use mathlib.Core.List.{List, [], _∷_}
 use mathlib.Core.Bool.{Bool, true, false}
 use lib.ListN.{length, getD, take, drop, length-take}
-use lib.Seq.{getD-take, take-take}
-use lib.Dec.{ltb, leb}
-use borrow.Author.Tests.{le-ltb, lt-ltb, le-leb, lt-leb, ltb-true, leb-true}
+use lib.Seq.{getD-take, getD-drop, take-take}
+use lib.Dec.{leb}
+use borrow.Author.Tests.{le-leb, lt-leb, leb-true}
 use Rattle.format.specs.declared.Counted.{Counted}
 use Rattle.format.specs.declared.Stop.{Stop}
 use Rattle.format.specs.declared.Stop.the-variants.{Ends, Count}
-use Rattle.format.specs.Text.{TextRead, pick, textOf}
-use Rattle.format.specs.Count.{over, little, wordAt, asWord}
-use Rattle.format.specs.Sign.{notNegative}
-use Rattle.format.specs.Prog.{Prog, Refusal, stopOf, ret, refuse, byte, pass, sign, text, counted, Res, ok, stopped, run, bind}
+use Rattle.format.specs.Text.{pick}
+use Rattle.format.specs.Count.{over, wordAt, asWord}
+use Rattle.format.specs.Step.{Step, byte, counted, width, Handed, handed, seen, Judged, fine, stops, judged}
+use Rattle.format.specs.Prog.{Prog, Refusal, stopOf, ret, refuse, read, Res, ok, stopped, onward, run, bind}
 
 -- what comes after a part
 abbrev pub andThen : {A B : Type 0} → Res A → (A → ℕ → Res B) → Res B
 andThen (ok a n) f = f a n
 andThen (stopped r) f = stopped r
 
-pick-andThen : {A B : Type 0} (t : Bool) (x y : Res A) (f : A → ℕ → Res B) → pick t (andThen x f) (andThen y f) ≡ andThen (pick t x y) f
-pick-andThen true x y f = refl
-pick-andThen false x y f = refl
-
--- the same of a count: read and allowed, read and over its limit, or cut off
-judged-andThen : {A B : Type 0} (there o : Bool) (x : Res A) (r : Stop) (f : A → ℕ → Res B)
-    → pick there (pick o (stopped r) (andThen x f)) (stopped Ends) ≡ andThen (pick there (pick o (stopped r) x) (stopped Ends)) f
-judged-andThen true true x r f = refl
-judged-andThen true false x r f = refl
-judged-andThen false o x r f = refl
+-- the same of a read: what was read is fine, or refused, or cut off
+judged-andThen : {A B : Type 0} (there : Bool) (j : Judged) (x : Res A) (f : A → ℕ → Res B)
+    → pick there (onward j (andThen x f)) (stopped Ends) ≡ andThen (pick there (onward j x) (stopped Ends)) f
+judged-andThen true fine x f = refl
+judged-andThen true (stops r) x f = refl
+judged-andThen false j x f = refl
 
 pub run-bind : {A B : Type 0} (p : Prog A) (f : A → Prog B) (s : List ℕ) (at : ℕ) → run (bind p f) s at ≡ andThen (run p s at) (λ a n. run (f a) s n)
 unfolding run bind
 run-bind (ret a) f s at = refl
 run-bind (refuse r) f s at = refl
-run-bind (byte k) f s at =
-    rw (run-bind (k (getD s at 0)) f s (at + 1))
-    (pick-andThen (ltb at (length s)) (run (k (getD s at 0)) s (at + 1)) (stopped Ends) (λ a n. run (f a) s n))
-run-bind (pass n p) f s at =
-    rw (run-bind p f s (at + n)) (pick-andThen (leb (at + n) (length s)) (run p s (at + n)) (stopped Ends) (λ a n. run (f a) s n))
-run-bind (sign k) f s at =
-    let b : Bool = notNegative (getD s at 0) in
-    rw (run-bind (k b) f s (at + 1)) (pick-andThen (ltb at (length s)) (run (k b) s (at + 1)) (stopped Ends) (λ a n. run (f a) s n))
-run-bind (text n k) f s at =
-    let t : TextRead = textOf at (take n (drop at s)) in
-    rw (run-bind (k t) f s (at + n)) (pick-andThen (leb (at + n) (length s)) (run (k t) s (at + n)) (stopped Ends) (λ a n. run (f a) s n))
-run-bind (counted c k) f s at =
-    let v : ℕ = wordAt s at in
-    rw (run-bind (k v) f s (at + 4))
-    (judged-andThen (leb (at + 4) (length s)) (over c v) (run (k v) s (at + 4)) (Count c v (asWord at)) (λ a n. run (f a) s n))
+run-bind (read k g) f s at =
+    let v : Handed k = seen k s at in
+    rw (run-bind (g v) f s (at + width k))
+    (judged-andThen (leb (at + width k) (length s)) (judged k at v) (run (g v) s (at + width k)) (λ a n. run (f a) s n))
 
 -- two results that are never equal are no facts
 pub clash : {X : Type 0} → _≡_ {A = ℕ} 0 1 → X
@@ -67,60 +53,26 @@ module _ {A : Type 0} (s : List ℕ) (at : ℕ) where
   unfolding run
   run-refuse r = refl
 
-  pub byte-goes : (k : ℕ → Prog A) → at < length s → run (byte k) s at ≡ run (k (getD s at 0)) s (at + 1)
-  unfolding run
-  byte-goes k h = simp (lt-ltb _ _ h)
+  module _ (k : Step) (f : Handed k → Prog A) where
+    pub read-goes : at + width k ≤ length s → judged k at (seen k s at) ≡ fine
+        → run (read k f) s at ≡ run (f (seen k s at)) s (at + width k)
+    unfolding run
+    read-goes h j = simp (le-leb _ _ h, j)
 
-  pub byte-ends : (k : ℕ → Prog A) → length s ≤ at → run (byte k) s at ≡ stopped Ends
-  unfolding run
-  byte-ends k h = simp (le-ltb _ _ h)
+    pub read-stops : {x : Stop} → at + width k ≤ length s → judged k at (seen k s at) ≡ stops x → run (read k f) s at ≡ stopped x
+    unfolding run
+    read-stops h j = simp (le-leb _ _ h, j)
 
-  pub pass-goes : (m : ℕ) (p : Prog A) → at + m ≤ length s → run (pass m p) s at ≡ run p s (at + m)
-  unfolding run
-  pass-goes m p h = simp (le-leb _ _ h)
-
-  pub pass-ends : (m : ℕ) (p : Prog A) → length s < at + m → run (pass m p) s at ≡ stopped Ends
-  unfolding run
-  pass-ends m p h = simp (lt-leb _ _ h)
-
-  pub sign-goes : (k : Bool → Prog A) → at < length s → run (sign k) s at ≡ run (k (notNegative (getD s at 0))) s (at + 1)
-  unfolding run
-  sign-goes k h = simp (lt-ltb _ _ h)
-
-  pub sign-ends : (k : Bool → Prog A) → length s ≤ at → run (sign k) s at ≡ stopped Ends
-  unfolding run
-  sign-ends k h = simp (le-ltb _ _ h)
-
-  pub text-goes : (m : ℕ) (k : TextRead → Prog A) → at + m ≤ length s → run (text m k) s at ≡ run (k (textOf at (take m (drop at s)))) s (at + m)
-  unfolding run
-  text-goes m k h = simp (le-leb _ _ h)
-
-  pub text-ends : (m : ℕ) (k : TextRead → Prog A) → length s < at + m → run (text m k) s at ≡ stopped Ends
-  unfolding run
-  text-ends m k h = simp (lt-leb _ _ h)
-
-  pub count-goes : (c : Counted) (k : ℕ → Prog A) → at + 4 ≤ length s → over c (wordAt s at) ≡ false
-      → run (counted c k) s at ≡ run (k (wordAt s at)) s (at + 4)
-  unfolding run
-  count-goes c k h o = simp (le-leb _ _ h, o)
-
-  pub count-over : (c : Counted) (k : ℕ → Prog A) → at + 4 ≤ length s → over c (wordAt s at) ≡ true
-      → run (counted c k) s at ≡ stopped (Count c (wordAt s at) (asWord at))
-  unfolding run
-  count-over c k h o = simp (le-leb _ _ h, o)
-
-  pub count-ends : (c : Counted) (k : ℕ → Prog A) → length s < at + 4 → run (counted c k) s at ≡ stopped Ends
-  unfolding run
-  count-ends c k h = simp (lt-leb _ _ h)
+    pub read-ends : length s < at + width k → run (read k f) s at ≡ stopped Ends
+    unfolding run
+    read-ends h = simp (lt-leb _ _ h)
 
 -- ---- the other way: what is known of a step that was read
-passed : {A : Type 0} (t : Bool) (x : Res A) (a : A) (n : ℕ) → pick t x (stopped Ends) ≡ ok a n → (t ≡ true) × (x ≡ ok a n)
-passed true x a n e = (refl, e)
-passed false x a n e = clash (cc)
-
-allowed : {A : Type 0} (o : Bool) (x : Res A) (r : Stop) (a : A) (n : ℕ) → pick o (stopped r) x ≡ ok a n → (o ≡ false) × (x ≡ ok a n)
-allowed true x r a n e = clash (cc)
-allowed false x r a n e = (refl, e)
+passed : {A : Type 0} (there : Bool) (j : Judged) (x : Res A) (a : A) (n : ℕ) → pick there (onward j x) (stopped Ends) ≡ ok a n
+    → (there ≡ true) × (j ≡ fine) × (x ≡ ok a n)
+passed true fine x a n e = (refl, refl, e)
+passed true (stops r) x a n e = clash (cc)
+passed false j x a n e = clash (cc)
 
 module _ {A : Type 0} (s : List ℕ) (at n : ℕ) (a : A) where
   pub ret-ok : (x : A) → run (ret x) s at ≡ ok a n → (x ≡ a) × (at ≡ n)
@@ -131,62 +83,20 @@ module _ {A : Type 0} (s : List ℕ) (at n : ℕ) (a : A) where
   unfolding run
   refuse-ok r e = clash (cc)
 
-  pub byte-ok : (k : ℕ → Prog A) → run (byte k) s at ≡ ok a n → (at < length s) × (run (k (getD s at 0)) s (at + 1) ≡ ok a n)
+  pub read-ok : (k : Step) (f : Handed k → Prog A) → run (read k f) s at ≡ ok a n
+      → (at + width k ≤ length s) × (judged k at (seen k s at) ≡ fine) × (run (f (seen k s at)) s (at + width k) ≡ ok a n)
   unfolding run
-  byte-ok k e =
-      let w = passed (ltb at (length s)) (run (k (getD s at 0)) s (at + 1)) a n e in
-      (ltb-true _ _ (w .0), w .1)
-
-  pub pass-ok : (m : ℕ) (p : Prog A) → run (pass m p) s at ≡ ok a n → (at + m ≤ length s) × (run p s (at + m) ≡ ok a n)
-  unfolding run
-  pass-ok m p e =
-      let w = passed (leb (at + m) (length s)) (run p s (at + m)) a n e in
-      (leb-true _ _ (w .0), w .1)
-
-  pub sign-ok : (k : Bool → Prog A) → run (sign k) s at ≡ ok a n → (at < length s) × (run (k (notNegative (getD s at 0))) s (at + 1) ≡ ok a n)
-  unfolding run
-  sign-ok k e =
-      let w = passed (ltb at (length s)) (run (k (notNegative (getD s at 0))) s (at + 1)) a n e in
-      (ltb-true _ _ (w .0), w .1)
-
-  pub text-ok : (m : ℕ) (k : TextRead → Prog A) → run (text m k) s at ≡ ok a n → (at + m ≤ length s) × (run (k (textOf at (take m (drop at s)))) s (at + m) ≡ ok a n)
-  unfolding run
-  text-ok m k e =
-      let w = passed (leb (at + m) (length s)) (run (k (textOf at (take m (drop at s)))) s (at + m)) a n e in
-      (leb-true _ _ (w .0), w .1)
-
-  pub count-ok : (c : Counted) (k : ℕ → Prog A) → run (counted c k) s at ≡ ok a n
-      → (at + 4 ≤ length s) × (over c (wordAt s at) ≡ false) × (run (k (wordAt s at)) s (at + 4) ≡ ok a n)
-  unfolding run
-  count-ok c k e =
-      let v : ℕ = wordAt s at in
-      let w = passed (leb (at + 4) (length s)) (pick (over c v) (stopped (Count c v (asWord at))) (run (k v) s (at + 4))) a n e in
-      let z = allowed (over c v) (run (k v) s (at + 4)) (Count c v (asWord at)) a n (w .1) in
-      (leb-true _ _ (w .0), z .0, z .1)
+  read-ok k f e =
+      let w = passed (leb (at + width k) (length s)) (judged k at (seen k s at)) (run (f (seen k s at)) s (at + width k)) a n e in
+      (leb-true _ _ (w .0), w .1, w .2)
 
 -- a program ends no earlier than it starts, and within the file
 pub run-within : {A : Type 0} (p : Prog A) (s : List ℕ) (at n : ℕ) (a : A) → at ≤ length s → run p s at ≡ ok a n → (at ≤ n) × (n ≤ length s)
 run-within (ret x) s at n a h e = let k : at ≡ n = ret-ok s at n a x e .1 in omega arith
 run-within (refuse r) s at n a h e = refuse-ok s at n a r e
-run-within (byte k) s at n a h e =
-    let w = byte-ok s at n a k e in
-    let v = run-within (k (getD s at 0)) s (at + 1) n a (omega arith) (w .1) in
-    omega arith
-run-within (pass m p) s at n a h e =
-    let w = pass-ok s at n a m p e in
-    let v = run-within p s (at + m) n a (omega arith) (w .1) in
-    omega arith
-run-within (sign k) s at n a h e =
-    let w = sign-ok s at n a k e in
-    let v = run-within (k (notNegative (getD s at 0))) s (at + 1) n a (omega arith) (w .1) in
-    omega arith
-run-within (text m k) s at n a h e =
-    let w = text-ok s at n a m k e in
-    let v = run-within (k (textOf at (take m (drop at s)))) s (at + m) n a (omega arith) (w .1) in
-    omega arith
-run-within (counted c k) s at n a h e =
-    let w = count-ok s at n a c k e in
-    let v = run-within (k (wordAt s at)) s (at + 4) n a (w .0) (w .2) in
+run-within (read k f) s at n a h e =
+    let w = read-ok s at n a k f e in
+    let v = run-within (f (seen k s at)) s (at + width k) n a (w .0) (w .2) in
     omega arith
 
 -- the bytes at a position are those of the file's beginning
@@ -197,43 +107,50 @@ part-take (suc m) zero k s h = take-take k (suc m) s (omega arith)
 part-take (suc m) (suc at) k [] h = refl
 part-take (suc m) (suc at) k (x ∷ xs) h = part-take m at k xs (omega arith)
 
+-- and so is what is handed on of them
+pub same-seen : (k : Step) (s t : List ℕ) (at : ℕ) → take (width k) (drop at s) ≡ take (width k) (drop at t) → seen k s at ≡ seen k t at
+same-seen k s t at e = ap (handed k at) e
+
 -- a file that is cut before the program's end: the bytes end
 pub run-cut : {A : Type 0} (p : Prog A) (s : List ℕ) (at n m : ℕ) (a : A) → at ≤ m → m < n → m ≤ length s → run p s at ≡ ok a n → run p (take m s) at ≡ stopped Ends
 run-cut (ret x) s at n m a h l g e = let k : at ≡ n = ret-ok s at n a x e .1 in let w : ⊥ = omega arith in absurd w
 run-cut (refuse r) s at n m a h l g e = refuse-ok s at n a r e
-run-cut (byte k) s at n m a h l g e =
-    let w = byte-ok s at n a k e in
-    elim (decLt at m) [
-      | yes d ↦ byte-goes (take m s) at k (simp length-take (omega arith))
-          ∙ rw (getD-take m s at 0 d) (run-cut (k (getD s at 0)) s (at + 1) n m a (omega arith) l g (w .1))
-      | no d ↦ byte-ends (take m s) at k (simp length-take (omega arith))
-    ]
-run-cut (pass j p) s at n m a h l g e =
-    let w = pass-ok s at n a j p e in
-    elim (decLe (at + j) m) [
-      | yes d ↦ pass-goes (take m s) at j p (simp length-take (omega arith)) ∙ run-cut p s (at + j) n m a (omega arith) l g (w .1)
-      | no d ↦ pass-ends (take m s) at j p (simp length-take (omega arith))
-    ]
-run-cut (sign k) s at n m a h l g e =
-    let w = sign-ok s at n a k e in
-    elim (decLt at m) [
-      | yes d ↦ sign-goes (take m s) at k (simp length-take (omega arith))
-          ∙ rw (getD-take m s at 0 d) (run-cut (k (notNegative (getD s at 0))) s (at + 1) n m a (omega arith) l g (w .1))
-      | no d ↦ sign-ends (take m s) at k (simp length-take (omega arith))
-    ]
-run-cut (text j k) s at n m a h l g e =
-    let w = text-ok s at n a j k e in
-    elim (decLe (at + j) m) [
-      | yes d ↦ text-goes (take m s) at j k (simp length-take (omega arith))
-          ∙ rw (part-take m at j s d) (run-cut (k (textOf at (take j (drop at s)))) s (at + j) n m a (omega arith) l g (w .1))
-      | no d ↦ text-ends (take m s) at j k (simp length-take (omega arith))
-    ]
-run-cut (counted c k) s at n m a h l g e =
-    let w = count-ok s at n a c k e in
-    elim (decLe (at + 4) m) [
+run-cut (read k f) s at n m a h l g e =
+    let w = read-ok s at n a k f e in
+    elim (decLe (at + width k) m) [
       | yes d ↦
-          let same : wordAt (take m s) at ≡ wordAt s at = ap little (part-take m at 4 s d) in
-          count-goes (take m s) at c k (simp length-take (omega arith)) (ap (over c) same ∙ w .1)
-          ∙ rw same (run-cut (k (wordAt s at)) s (at + 4) n m a (omega arith) l g (w .2))
-      | no d ↦ count-ends (take m s) at c k (simp length-take (omega arith))
+          let same = same-seen k (take m s) s at (part-take m at (width k) s d) in
+          read-goes (take m s) at k f (simp length-take (omega arith)) (ap (judged k at) same ∙ w .1)
+          ∙ rw same (run-cut (f (seen k s at)) s (at + width k) n m a d l g (w .2))
+      | no d ↦ read-ends (take m s) at k f (simp length-take (omega arith))
     ]
+
+-- ---- a byte is what stands there, and a count that was read is not over its limit
+pub first-byte : (s : List ℕ) (at : ℕ) → getD (take 1 (drop at s)) 0 0 ≡ getD s at 0
+first-byte s at = getD-take 1 (drop at s) 0 0 (omega arith) ∙ getD-drop at s 0 0 ∙ rw add-zero
+
+module _ {A : Type 0} (s : List ℕ) (at : ℕ) where
+  pub byte-goes : (f : ℕ → Prog A) → at < length s → run (read byte f) s at ≡ run (f (getD s at 0)) s (at + 1)
+  byte-goes f h = read-goes s at byte f (omega arith) refl ∙ rw (first-byte s at)
+
+  module _ (c : Counted) (f : ℕ → Prog A) where
+    pub count-goes : at + 4 ≤ length s → over c (wordAt s at) ≡ false → run (read (counted c) f) s at ≡ run (f (wordAt s at)) s (at + 4)
+    count-goes h o = read-goes s at (counted c) f h (rw o)
+
+    pub count-over : at + 4 ≤ length s → over c (wordAt s at) ≡ true
+        → run (read (counted c) f) s at ≡ stopped (Count c (wordAt s at) (asWord at))
+    count-over h o = read-stops s at (counted c) f h (rw o)
+
+allowed : (x : Stop) (o : Bool) → pick o (stops x) fine ≡ fine → o ≡ false
+allowed x true j = clash (cc)
+allowed x false j = refl
+
+module _ {A : Type 0} (s : List ℕ) (at n : ℕ) (a : A) where
+  pub byte-ok : (f : ℕ → Prog A) → run (read byte f) s at ≡ ok a n → (at < length s) × (run (f (getD s at 0)) s (at + 1) ≡ ok a n)
+  byte-ok f e = let w = read-ok s at n a byte f e in (omega arith, rw (first-byte s at) at (w .2))
+
+  pub count-ok : (c : Counted) (f : ℕ → Prog A) → run (read (counted c) f) s at ≡ ok a n
+      → (at + 4 ≤ length s) × (over c (wordAt s at) ≡ false) × (run (f (wordAt s at)) s (at + 4) ≡ ok a n)
+  count-ok c f e =
+      let w = read-ok s at n a (counted c) f e in
+      (w .0, allowed (Count c (wordAt s at) (asWord at)) (over c (wordAt s at)) (w .1), w .2)

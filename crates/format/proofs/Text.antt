@@ -15,11 +15,12 @@ use Rattle.format.specs.declared.Place.the-variants.{At, Stopped}
 use Rattle.format.specs.declared.Stop.{Stop}
 use Rattle.format.specs.declared.Stop.the-variants.{Ends}
 use Rattle.format.specs.Text.{TextRead, pick, blank, cutLen, leadLen, keepLen, keepNext, cut, trim, rangeOf, textOf, noText, textIn}
+use Rattle.format.specs.Step.{text}
 use Rattle.format.specs.Prog.{Prog, ret}
 use Rattle.format.specs.Place.{Gives}
 use Rattle.format.specs.Fields.{textBytes}
 use Rattle.format.specs.Yields.{Inside, OfFile}
-use Rattle.format.proofs.Run.{part-take, text-goes, text-ends, run-ret}
+use Rattle.format.proofs.Run.{part-take, read-goes, read-ends, run-ret}
 use Rattle.format.proofs.Rules.{starting, still, returned-at, handing-none}
 use Rattle.format.proofs.Fits.{slice-next, slice-split}
 
@@ -114,7 +115,7 @@ part-slice at n s = sym (append-nil (take n (drop at s))) ∙ rw (← (slice-emp
 pub between : (start end : ℕ) (s : List ℕ) → start ≤ end → take (end - start) (drop start s) ≡ slice start end s
 between start end s h = let j : start + (end - start) ≡ end = omega arith in part-slice start (end - start) s ∙ rw j
 
-pub cut-within : (l : List ℕ) → cutLen l ≤ length l
+cut-within : (l : List ℕ) → cutLen l ≤ length l
 unfolding cutLen
 cut-within [] = omega arith
 cut-within (x ∷ xs) = cut-pick (eqb x 0) (cutLen xs) (length xs) (cut-within xs)
@@ -200,7 +201,7 @@ module _ (s : List ℕ) (at n end start stop : ℕ) (f : at + n ≤ length s) (h
   pub words-goes : {from : Place} {r : Range} → from ≡ At at → r ≡ rangeOf start (stop - start) → Gives (textBytes n) noText s from (textIn s r) (At (at + n))
   unfolding textBytes
   words-goes e g =
-      rw g (returned-at (starting e (record { reaches = text-goes s at n (λ t. ret t) f ∙ run-ret s (at + n) (textOf at (take n (drop at s))) ∙ rw text-between })))
+      rw g (returned-at (starting e (record { reaches = read-goes s at (text n) (λ t. ret t) f refl ∙ run-ret s (at + n) (textOf at (take n (drop at s))) ∙ rw text-between })))
 
 -- an empty range is no text
 pub none-in : (s : List ℕ) → textIn s (record { start = 0; end = 0 }) ≡ noText
@@ -209,7 +210,7 @@ none-in s = text-is _ _ _ _ refl (slice-empty 0 s)
 
 pub words-ends : {s : List ℕ} {from : Place} {at : ℕ} → from ≡ At at → (n : ℕ) → length s < at + n → Gives (textBytes n) noText s from (textIn s (record { start = 0; end = 0 })) (Stopped Ends)
 unfolding textBytes
-words-ends {s} {from} {at} e n h = handing-none (none-in s) (starting e (record { reaches = text-ends s at n (λ t. ret t) h }))
+words-ends {s} {from} {at} e n h = handing-none (none-in s) (starting e (record { reaches = read-ends s at (text n) (λ t. ret t) h }))
 
 pub text-still : {p : Prog TextRead} {s : List ℕ} {at : Place} {x : Stop} → at ≡ Stopped x → Gives p noText s at (textIn s (record { start = 0; end = 0 })) at
 text-still {s = s} e = handing-none (none-in s) (still e)

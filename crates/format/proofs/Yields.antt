@@ -1,4 +1,4 @@
--- Rules for what programs of reads hand on: a return, a bind, a choice, turns, each kind of field.
+-- Rules for what programs of reads hand on: a return, a bind, a choice, turns, each step of field.
 use Prim.Native.Nat.{ℕ, zero, suc, _+_, _≤_, _<_}
 use native.Mathlib.Omega.{arith}
 use mathlib.Core.Path.{_≡_, refl, sym, _∙_}
@@ -11,11 +11,12 @@ use borrow.Author.Tests.{leb-true, leb-false, ltb-false, eqb-true, eqb-false}
 use Rattle.format.specs.declared.Counted.{Counted}
 use Rattle.format.specs.Text.{pick, textOf, noText}
 use Rattle.format.specs.Count.{NEGATIVE, limitOf, over, wordAt}
+use Rattle.format.specs.Step.{pass, text}
 use Rattle.format.specs.Prog.{Prog, Refusal, ret, refuse, Res, ok, stopped, run, bind, turns, whenLe, whenEq, whenBits}
 use Rattle.format.specs.Fields.{u8, number, skip, textBytes, count}
 use Rattle.format.specs.Fields.{stringOf, fixedString, intByteStringUnused, intByteString}
 use Rattle.format.specs.Yields.{Yields, Onward, Bytes, OfFile}
-use Rattle.format.proofs.Run.{andThen, run-bind, clash, ret-ok, refuse-ok, byte-ok, pass-ok, text-ok, count-ok, run-within}
+use Rattle.format.proofs.Run.{andThen, run-bind, clash, ret-ok, refuse-ok, read-ok, byte-ok, count-ok, run-within}
 use Rattle.format.proofs.Text.{none-of-file, text-of-file}
 
 module _ {A : Type 0} {s : List ℕ} {at : ℕ} {Q : A → ℕ → Type 0} where
@@ -92,14 +93,14 @@ module _ {s : List ℕ} {at : ℕ} where
 
   pub yield-skip : (k : ℕ) → Yields s (skip k) at (λ _ n. n ≡ at + k)
   unfolding skip
-  yield-skip k = record { yields = λ l a n e. sym (ret-ok s (at + k) n a tt (pass-ok s at n a k (ret tt) e .1) .1) }
+  yield-skip k = record { yields = λ l a n e. sym (ret-ok s (at + k) n a tt (read-ok s at n a (pass k) (λ _. ret tt) e .2) .1) }
 
   pub yield-words : (k : ℕ) → Yields s (textBytes k) at (λ t _. OfFile s t)
   unfolding textBytes
   yield-words k = record {
     yields = λ l t n e.
-        let w = text-ok s at n t k (λ x. ret x) e in
-        rw (ret-ok s (at + k) n t (textOf at (take k (drop at s))) (w .1) .0) at (text-of-file s at k (w .0));
+        let w = read-ok s at n t (text k) (λ x. ret x) e in
+        rw (ret-ok s (at + k) n t (textOf at (take k (drop at s))) (w .2) .0) at (text-of-file s at k (w .0));
   }
 
 pub yield-number : {s : List ℕ} {at : ℕ} (w : ℕ) → Yields s (number w) at (λ _ n. n ≡ at + w)

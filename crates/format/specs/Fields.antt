@@ -5,10 +5,11 @@ use lib.Dec.{leb}
 use Rattle.format.specs.declared.Counted.{Counted}
 use Rattle.format.specs.Text.{TextRead, pick}
 use Rattle.format.specs.Count.{NEGATIVE}
-use Rattle.format.specs.Prog.{Prog, ret, refuse, wrongLength, byte, pass, sign, text, counted, bind, whenLe}
+use Rattle.format.specs.Step.{byte, pass, sign, text, counted}
+use Rattle.format.specs.Prog.{Prog, ret, refuse, wrongLength, read, bind, whenLe}
 
 unfoldable pub u8 : Prog ℕ
-u8 = byte (λ b. ret b)
+u8 = read byte (λ b. ret b)
 
 -- w bytes, the least first. A signed number is read as its two's complement
 unfoldable pub number : ℕ → Prog ℕ
@@ -22,14 +23,14 @@ abbrev pub u32 : Prog ℕ
 u32 = number 4
 
 unfoldable pub skip : ℕ → Prog Unit
-skip n = pass n (ret tt)
+skip n = read (pass n) (λ _. ret tt)
 
 -- whether a byte is 0 or more; its value is passed over (document 02, n)
 unfoldable pub signByte : Prog Bool
-signByte = sign (λ b. ret b)
+signByte = read sign (λ b. ret b)
 
 unfoldable pub textBytes : ℕ → Prog TextRead
-textBytes n = text n (λ t. ret t)
+textBytes n = read (text n) (λ t. ret t)
 
 -- a number less one, and never below 0: the size of a string; a port, a channel, a lyric track and a lyric start (document 02, e)
 unfoldable pub lessOne : ℕ → ℕ
@@ -37,7 +38,7 @@ lessOne v = pick (leb NEGATIVE v) 0 (v - 1)
 
 -- a count: within its limit, or refused with its value and where it stands
 unfoldable pub count : Counted → Prog ℕ
-count which = counted which (λ v. ret v)
+count which = read (counted which) (λ v. ret v)
 
 -- no text is longer
 abbrev pub MAXSTRING : ℕ

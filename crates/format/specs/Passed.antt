@@ -1,28 +1,17 @@
 -- Where a field stands in a file, and which bytes a reading passes over.
 use Prim.Native.Nat.{ℕ, _+_, _≤_, _<_}
 use mathlib.Core.Path.{_≡_}
-use mathlib.Core.Bool.{Bool}
 use mathlib.Core.List.{List}
-use lib.ListN.{getD, take, drop}
-use Rattle.format.specs.declared.Counted.{Counted}
-use Rattle.format.specs.Text.{TextRead, zeroAt, textOf}
-use Rattle.format.specs.Count.{wordAt}
-use Rattle.format.specs.Sign.{notNegative}
-use Rattle.format.specs.Prog.{Prog, byte, pass, sign, text, counted, ok, run, bind}
+use Rattle.format.specs.Step.{Step, width, Handed, seen, Passes}
+use Rattle.format.specs.Prog.{Prog, read, ok, run, bind}
 use Rattle.format.specs.Alike.{Kept, Signed}
 use Rattle.format.specs.Fields.{u32, textBytes, MAXSTRING, lessOne}
 
--- reading the file s by a program, from a position on, passes over the n bytes from k on
+-- reading the file s by a program, from a position on, passes over the n bytes from k on: in its first read, or later
 pub data Skips {A : Type 0} (s : List ℕ) (k n : ℕ) : Prog A → ℕ → Type 0 where
-  here : {p : Prog A} → Skips s k n (pass n p) k
-  past : {p : Prog A} {m at : ℕ} → Skips s k n p (at + m) → Skips s k n (pass m p) at
-  after-byte : {f : ℕ → Prog A} {at : ℕ} → Skips s k n (f (getD s at 0)) (at + 1) → Skips s k n (byte f) at
-  after-sign : {f : Bool → Prog A} {at : ℕ} → Skips s k n (f (notNegative (getD s at 0))) (at + 1) → Skips s k n (sign f) at
-  -- what stands in a text after its first zero byte (document 02, n)
-  after-zero : {f : TextRead → Prog A} {m at : ℕ} → k ≡ zeroAt s at m + 1 → k + n ≡ at + m → Skips s k n (text m f) at
-  after-text : {f : TextRead → Prog A} {m at : ℕ}
-      → Skips s k n (f (textOf at (take m (drop at s)))) (at + m) → Skips s k n (text m f) at
-  after-count : {c : Counted} {f : ℕ → Prog A} {at : ℕ} → Skips s k n (f (wordAt s at)) (at + 4) → Skips s k n (counted c f) at
+  here : {step : Step} {f : Handed step → Prog A} {at : ℕ} → Passes step s at k n → Skips s k n (read step f) at
+  later : {step : Step} {f : Handed step → Prog A} {at : ℕ}
+      → Skips s k n (f (seen step s at)) (at + width step) → Skips s k n (read step f) at
 
 -- position i is one of those bytes
 pub record Skipped {A : Type 0} (s : List ℕ) (p : Prog A) (at i : ℕ) : Type 0 where
@@ -65,6 +54,6 @@ pub record Reads {A B : Type 0} (s : List ℕ) (q : Prog B) (from : ℕ) (p : Pr
 abbrev pub Has : {A B : Type 0} → List ℕ → Prog B → ℕ → Prog A → Type 1
 Has {A = A} s q from p = (at : ℕ) × (a : A) × (n : ℕ) × Reads s q from p at a n
 
--- a kept text was
+-- a kept text was read somewhere
 abbrev pub HasText : {B : Type 0} → List ℕ → Prog B → ℕ → Type 1
 HasText s q from = (n : ℕ) × Has s q from (textBytes n)

@@ -2,15 +2,13 @@
 use Prim.Native.Nat.{ℕ, zero, suc, _+_}
 use mathlib.Core.Bool.{Bool, not}
 use mathlib.Core.List.{List}
-use lib.ListN.{length, getD, take, drop}
-use lib.Dec.{ltb, leb, eqb}
+use lib.ListN.{length}
+use lib.Dec.{leb, eqb}
 use lib.Bits.{bitAnd}
-use Rattle.format.specs.declared.Counted.{Counted}
 use Rattle.format.specs.declared.Stop.{Stop}
-use Rattle.format.specs.declared.Stop.the-variants.{Ends, Text, Version, Count, Empty}
-use Rattle.format.specs.Text.{TextRead, pick, textOf}
-use Rattle.format.specs.Count.{over, wordAt, asWord}
-use Rattle.format.specs.Sign.{notNegative}
+use Rattle.format.specs.declared.Stop.the-variants.{Ends, Text, Version, Empty}
+use Rattle.format.specs.Text.{pick}
+use Rattle.format.specs.Step.{Step, width, Handed, seen, Judged, fine, stops, judged}
 
 -- why a program refuses a file by what it has read: a text's length, the version, no bars or no tracks
 pub data Refusal : Type 0 where
@@ -21,45 +19,36 @@ stopOf wrongLength = Text
 stopOf wrongVersion = Version
 stopOf nothingInside = Empty
 
--- A program of reads. It ends with its result (`ret`) or refuses the file (`refuse`); or it reads on: a byte that is kept (`byte`), n bytes
--- that are passed over (`pass`), a byte of which the sign alone is handed on (`sign`; document 02, n), n bytes of text, of which the part
--- after cut and trim is handed on (`text`), or four bytes that are a count (`counted`), which is refused where it is over its limit
+-- A program of reads. It ends with its result (`ret`) or refuses the file (`refuse`); or it reads a step and goes on by what that hands on
 pub data Prog (A : Type 0) : Type 0 where
   ret : A → Prog A
   refuse : Refusal → Prog A
-  byte : (ℕ → Prog A) → Prog A
-  pass : ℕ → Prog A → Prog A
-  sign : (Bool → Prog A) → Prog A
-  text : ℕ → (TextRead → Prog A) → Prog A
-  counted : Counted → (ℕ → Prog A) → Prog A
+  read : (k : Step) → (Handed k → Prog A) → Prog A
 
 -- the result and where it ends, or why there is none
 pub data Res (A : Type 0) : Type 0 where
   ok : A → ℕ → Res A
   stopped : Stop → Res A
 
--- a program at a position of the file s. A count that is refused is so with its value and the position of its first byte (document 02, k)
+-- what comes of reading on where what was read is fine
+abbrev pub onward : {A : Type 0} → Judged → Res A → Res A
+onward fine r = r
+onward (stops x) r = stopped x
+
+-- a program at a position of the file s: where its bytes are there they are judged, and reading goes on behind them
 unfoldable pub run : {A : Type 0} → Prog A → List ℕ → ℕ → Res A
 run (ret a) s at = ok a at
 run (refuse r) s at = stopped (stopOf r)
-run (byte k) s at = pick (ltb at (length s)) (run (k (getD s at 0)) s (at + 1)) (stopped Ends)
-run (pass n p) s at = pick (leb (at + n) (length s)) (run p s (at + n)) (stopped Ends)
-run (sign k) s at = pick (ltb at (length s)) (run (k (notNegative (getD s at 0))) s (at + 1)) (stopped Ends)
-run (text n k) s at = pick (leb (at + n) (length s)) (run (k (textOf at (take n (drop at s)))) s (at + n)) (stopped Ends)
-run (counted c k) s at =
-    pick (leb (at + 4) (length s))
-    (pick (over c (wordAt s at)) (stopped (Count c (wordAt s at) (asWord at))) (run (k (wordAt s at)) s (at + 4)))
+run (read k f) s at =
+    pick (leb (at + width k) (length s))
+    (onward (judged k at (seen k s at)) (run (f (seen k s at)) s (at + width k)))
     (stopped Ends)
 
 -- one program after another
 unfoldable pub bind : {A B : Type 0} → Prog A → (A → Prog B) → Prog B
 bind (ret a) f = f a
 bind (refuse r) f = refuse r
-bind (byte k) f = byte (λ b. bind (k b) f)
-bind (pass n p) f = pass n (bind p f)
-bind (sign k) f = sign (λ b. bind (k b) f)
-bind (text n k) f = text n (λ r. bind (k r) f)
-bind (counted c k) f = counted c (λ v. bind (k v) f)
+bind (read k g) f = read k (λ v. bind (g v) f)
 
 -- the same k times, from turn number i on, with a state that is handed on
 unfoldable pub turns : {S : Type 0} → ℕ → ℕ → (ℕ → S → Prog S) → S → Prog S

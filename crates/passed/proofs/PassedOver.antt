@@ -13,7 +13,7 @@ use Rattle.format.specs.declared.Counted.the-variants as C
 use Rattle.format.specs.Text.{TextRead, zeroAt}
 use Rattle.format.specs.Prog.{Prog, ok, run, turns, has}
 use Rattle.format.specs.Count.{NEGATIVE}
-use Rattle.format.specs.Fields.{u16, u32, skip, signByte, textBytes, count, fixedString, intByteString, intByteStringPast}
+use Rattle.format.specs.Fields.{u16, u32, skip, textBytes, count, fixedString, intByteString, intByteStringPast}
 use Rattle.format.specs.Fields.{intByteStringUnused, intByteStringUnusedPast}
 use Rattle.format.specs.Alike.{Kept, Signed}
 use Rattle.model.specs.declared.Time.{Time}
@@ -25,7 +25,7 @@ use Rattle.header.specs.Header.{header}
 use Rattle.track.specs.Track.{tunings, strings, sound, effect}
 use Rattle.note.specs.Points.{BendPoint, bendPoints, bend, whammy}
 use Rattle.note.specs.Marks.{graceNote}
-use Rattle.beat.specs.Mix.{threeSigns, tempoName, duration, tempoEnd, mixFlags, wah, mixStrings}
+use Rattle.beat.specs.Mix.{threeSigns, tempoName, duration, tempoEnd, mixFlags, wah, mixStrings, mixTable}
 use Rattle.beat.specs.Tail.{tail}
 use Rattle.score.specs.File.{voices}
 use Rattle.score.specs.Score.{scored}
@@ -220,9 +220,9 @@ module _ {d : List ℕ} {at : ℕ} where
       let three = B.three-signed d at in
       (stands-signs w at (three .0), stands-signs w (at + 1) (three .1), stands-signs w (at + 1 + 1) (three .2))
 
-  -- "Instrument is one of these values,"
-  pub instrument : At d signByte at → Signed scored d 0 at
-  instrument w = stands-signs w at (F.sign-signed d at)
+  -- "Instrument is one of these values,": the first byte of a mix table
+  pub instrument : (v : ℕ) → At d (mixTable v) at → Signed scored d 0 at
+  instrument v w = stands-signs w at (B.instrument-signed d at v)
 
   -- "tempo and wah are not.": the tempo's four bytes are kept, and the wah byte is (`wah-kept`)
   pub tempo-kept : At d u32 at → (i : ℕ) → at ≤ i → i < at + 4 → Kept scored d 0 i

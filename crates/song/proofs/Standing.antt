@@ -15,15 +15,15 @@ use Rattle.format.specs.Passed.{Reads, Has, HasText}
 use Rattle.format.proofs.Standing.{somewhere, reads-parts, reads-le, unused-text, int-text}
 
 -- the kept texts of the song's names and credits, and those of the lyric lines
-pub record CreditsHas {B : Type 0} (s : List ℕ) (q : Prog B) (from v : ℕ) : Type 1 where
-  pub words : HasText s q from
-  pub music : 500 ≤ v → HasText s q from
-  pub copyright : HasText s q from
-
 pub record NamesHas {B : Type 0} (s : List ℕ) (q : Prog B) (from : ℕ) : Type 1 where
   pub title : HasText s q from
   pub subtitle : HasText s q from
   pub artist : HasText s q from
+
+pub record CreditsHas {B : Type 0} (s : List ℕ) (q : Prog B) (from v : ℕ) : Type 1 where
+  pub words : HasText s q from
+  pub music : 500 ≤ v → HasText s q from
+  pub copyright : HasText s q from
 
 pub record LyricsHas {B : Type 0} (s : List ℕ) (q : Prog B) (from : ℕ) : Type 1 where
   pub first : HasText s q from

@@ -1,7 +1,7 @@
 -- What the promise of `read` comes to, demand by demand: the demand's words stand before each theorem. Promise.antt has
 -- the words that they use, Laws.antt, Filled.antt and FitFile.antt the longer proofs.
 use Prim.Native.Nat.{ℕ, _+_, _≤_, _<_}
-use mathlib.Core.Logic.{_↔_, _⊎_, inl, inr}
+use mathlib.Core.Logic.{_↔_}
 use mathlib.Core.Path.{_≡_, refl, sym, ap, _∙_}
 use mathlib.Core.Bool.{true, false}
 use mathlib.Core.List.{List}
