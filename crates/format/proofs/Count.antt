@@ -12,7 +12,7 @@ use lib.Dec.{leb}
 use Rattle.format.specs.declared.Counted.{Counted}
 use Rattle.format.specs.declared.Stop.the-variants as S
 use Rattle.format.specs.Text.{pick}
-use Rattle.format.specs.Count.{over, little, wordAt, asWord}
+use Rattle.format.specs.Count.{tooMany, little, wordAt, asWord}
 use Rattle.format.specs.Step.{Step, byte, pass, sign, text, counted, width, Handed, seen, fine, judged}
 use Rattle.format.specs.Prog.{Prog, Refusal, wrongLength, wrongVersion, nothingInside, stopOf, ret, refuse, read, Res, ok, stopped, run}
 use Rattle.format.specs.Verdict.{LIMIT, Verdict, truncated, tooLong, badCount, asVerdict, upTo, verdict}
@@ -25,7 +25,7 @@ pub record CountAt {A : Type 0} (p : Prog A) (s : List ℕ) (at : ℕ) (c : Coun
   pub from : at ≤ i
   pub there : i + 4 ≤ length s
   pub value : v ≡ wordAt s i
-  pub high : over c v ≡ true
+  pub high : tooMany c v ≡ true
   pub rest : ℕ → Prog A
   pub comes : (t : List ℕ) → take i s ≡ take i t → run p t at ≡ run (read (counted c) rest) t i
 
@@ -82,9 +82,9 @@ read-at byte f s at c v word d later e = fine-at byte f s at c v word d later e 
 read-at (pass n) f s at c v word d later e = fine-at (pass n) f s at c v word d later e refl
 read-at sign f s at c v word d later e = fine-at sign f s at c v word d later e refl
 read-at (text n) f s at c v word d later e = fine-at (text n) f s at c v word d later e refl
-read-at {A} (counted b) f s at c v word d later e = go (over b (wordAt s at)) refl
+read-at {A} (counted b) f s at c v word d later e = go (tooMany b (wordAt s at)) refl
   where
-    go : (o : Bool) → over b (wordAt s at) ≡ o → Refused (read (counted b) f) s at c v word
+    go : (o : Bool) → tooMany b (wordAt s at) ≡ o → Refused (read (counted b) f) s at c v word
     go true o =
         let w : _≡_ {A = Res A} (stopped (S.Count b (wordAt s at) (asWord at))) (stopped (S.Count c v word)) =
         sym (count-over s at b f d o) ∙ e in
@@ -130,11 +130,11 @@ end-not-count false c v i e = clash (cc)
 pub record CountRefused {A : Type 0} (p : Prog A) (s : List ℕ) (c : Counted) (v i : ℕ) : Type 0 where
   pub there : i + 4 ≤ length s
   pub value : v ≡ wordAt s i
-  pub high : over c v ≡ true
+  pub high : tooMany c v ≡ true
   pub ends : (t : List ℕ) → take i s ≡ take i t → length t < i + 4 → verdict p t ≡ truncated
-  pub refuses : (t : List ℕ) → take i s ≡ take i t → i + 4 ≤ length t → over c (wordAt t i) ≡ true
+  pub refuses : (t : List ℕ) → take i s ≡ take i t → i + 4 ≤ length t → tooMany c (wordAt t i) ≡ true
       → verdict p t ≡ badCount c (wordAt t i) i
-  pub behind : (t : List ℕ) → take i s ≡ take i t → i + 4 ≤ length t → over c (wordAt t i) ≡ false
+  pub behind : (t : List ℕ) → take i s ≡ take i t → i + 4 ≤ length t → tooMany c (wordAt t i) ≡ false
       → (b : Counted) (w j : ℕ) → verdict p t ≡ badCount b w j → i + 4 ≤ j
 
 -- where it stopped within what may be read
@@ -197,12 +197,12 @@ module _ {A : Type 0} (p : Prog A) (s : List ℕ) (c : Counted) (v i : ℕ) (e :
         refuses = λ t g h o.
             verdict-upto p t
             ∙ rw (
-              comes-too t g ∙ count-over (upTo LIMIT t) i c (found .rest) (enough t h) (ap (over c) (same-word t) ∙ o),
+              comes-too t g ∙ count-over (upTo LIMIT t) i c (found .rest) (enough t h) (ap (tooMany c) (same-word t) ∙ o),
               same-word t,
               word-of (within .0),
             );
         behind = λ t g h o b w j z.
-            let on = count-goes (upTo LIMIT t) i c (found .rest) (enough t h) (ap (over c) (same-word t) ∙ o) in
+            let on = count-goes (upTo LIMIT t) i c (found .rest) (enough t h) (ap (tooMany c) (same-word t) ∙ o) in
             exact t
             (count-at (found .rest (wordAt (upTo LIMIT t) i)) (upTo LIMIT t) (i + 4) b w j
             (sym (comes-too t g ∙ on) ∙ stopped-at p t b w j z)) .1 .from;

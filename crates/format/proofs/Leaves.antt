@@ -16,7 +16,7 @@ use Rattle.format.specs.declared.Stop.{Stop}
 use Rattle.format.specs.declared.Stop.the-variants.{Ends, Count}
 use Rattle.format.specs.declared.Place.the-variants.{At, Stopped}
 use Rattle.format.specs.declared.Place.{Place}
-use Rattle.format.specs.Count.{NEGATIVE, limitOf, over, little, wordAt, asWord}
+use Rattle.format.specs.Count.{NEGATIVE, limitOf, tooMany, little, wordAt, asWord}
 use Rattle.format.specs.Sign.{notNegative}
 use Rattle.format.specs.Step.{byte, pass, counted}
 use Rattle.format.specs.Prog.{Prog, ret, ok, stopped, run, bind}
@@ -126,16 +126,16 @@ module _ {s : List ℕ} {from : Place} {at : ℕ} (e : from ≡ At at) where
 
 -- ---- a count, read as a number and then judged
 module _ (c : Counted) (v : ℕ) where
-  pub over-negative : NEGATIVE ≤ v → over c v ≡ true
-  unfolding over
+  pub over-negative : NEGATIVE ≤ v → tooMany c v ≡ true
+  unfolding tooMany
   over-negative h = simp (le-leb NEGATIVE v h)
 
-  pub over-limit : limitOf c < v → over c v ≡ true
-  unfolding over
+  pub over-limit : limitOf c < v → tooMany c v ≡ true
+  unfolding tooMany
   over-limit h = rw (lt-ltb (limitOf c) v h) (or-true (leb NEGATIVE v))
 
-  pub not-over : v < NEGATIVE → v ≤ limitOf c → over c v ≡ false
-  unfolding over
+  pub not-over : v < NEGATIVE → v ≤ limitOf c → tooMany c v ≡ false
+  unfolding tooMany
   not-over h k = rw (lt-leb NEGATIVE v h, le-ltb (limitOf c) v k)
 
 module _ (s : List ℕ) (at : ℕ) where
@@ -162,7 +162,7 @@ module _ {s : List ℕ} {from same next : Place} {at v : ℕ} (c : Counted) (e :
       stopping (starting e (record { reaches = read-ends s at (counted c) (λ x. ret x) (w .0) ∙ rw (g, w .1) }))
 
   module _ {n : ℕ} (g : next ≡ At n) where
-    pub count-read : over c v ≡ false → Gives (count c) 0 s from v next
+    pub count-read : tooMany c v ≡ false → Gives (count c) 0 s from v next
     unfolding count
     count-read o =
         let w = word-read s at (rw g at word) in
@@ -170,7 +170,7 @@ module _ {s : List ℕ} {from same next : Place} {at v : ℕ} (c : Counted) (e :
         (starting e
         (record { reaches = count-goes s at c (λ x. ret x) (w .0) (rw (w .1) o) ∙ run-ret s (at + 4) (wordAt s at) ∙ rw (g, w .1, w .2) }))
 
-    pub count-refused : over c v ≡ true → Gives (count c) 0 s from 0 (Stopped (Count c v (asWord at)))
+    pub count-refused : tooMany c v ≡ true → Gives (count c) 0 s from 0 (Stopped (Count c v (asWord at)))
     unfolding count
     count-refused o =
         let w = word-read s at (rw g at word) in

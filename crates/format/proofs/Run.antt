@@ -14,7 +14,7 @@ use Rattle.format.specs.declared.Counted.{Counted}
 use Rattle.format.specs.declared.Stop.{Stop}
 use Rattle.format.specs.declared.Stop.the-variants.{Ends, Count}
 use Rattle.format.specs.Text.{pick}
-use Rattle.format.specs.Count.{over, wordAt, asWord}
+use Rattle.format.specs.Count.{tooMany, wordAt, asWord}
 use Rattle.format.specs.Step.{Step, byte, counted, width, Handed, handed, seen, Judged, fine, stops, judged}
 use Rattle.format.specs.Prog.{Prog, Refusal, stopOf, ret, refuse, read, Res, ok, stopped, onward, run, bind}
 
@@ -134,10 +134,10 @@ module _ {A : Type 0} (s : List ℕ) (at : ℕ) where
   byte-goes f h = read-goes s at byte f (omega arith) refl ∙ rw (first-byte s at)
 
   module _ (c : Counted) (f : ℕ → Prog A) where
-    pub count-goes : at + 4 ≤ length s → over c (wordAt s at) ≡ false → run (read (counted c) f) s at ≡ run (f (wordAt s at)) s (at + 4)
+    pub count-goes : at + 4 ≤ length s → tooMany c (wordAt s at) ≡ false → run (read (counted c) f) s at ≡ run (f (wordAt s at)) s (at + 4)
     count-goes h o = read-goes s at (counted c) f h (rw o)
 
-    pub count-over : at + 4 ≤ length s → over c (wordAt s at) ≡ true
+    pub count-over : at + 4 ≤ length s → tooMany c (wordAt s at) ≡ true
         → run (read (counted c) f) s at ≡ stopped (Count c (wordAt s at) (asWord at))
     count-over h o = read-stops s at (counted c) f h (rw o)
 
@@ -150,7 +150,7 @@ module _ {A : Type 0} (s : List ℕ) (at n : ℕ) (a : A) where
   byte-ok f e = let w = read-ok s at n a byte f e in (omega arith, rw (first-byte s at) at (w .2))
 
   pub count-ok : (c : Counted) (f : ℕ → Prog A) → run (read (counted c) f) s at ≡ ok a n
-      → (at + 4 ≤ length s) × (over c (wordAt s at) ≡ false) × (run (f (wordAt s at)) s (at + 4) ≡ ok a n)
+      → (at + 4 ≤ length s) × (tooMany c (wordAt s at) ≡ false) × (run (f (wordAt s at)) s (at + 4) ≡ ok a n)
   count-ok c f e =
       let w = read-ok s at n a (counted c) f e in
-      (w .0, allowed (Count c (wordAt s at) (asWord at)) (over c (wordAt s at)) (w .1), w .2)
+      (w .0, allowed (Count c (wordAt s at) (asWord at)) (tooMany c (wordAt s at)) (w .1), w .2)

@@ -10,7 +10,7 @@ use lib.Bits.{bitAnd}
 use borrow.Author.Tests.{leb-true, leb-false, ltb-false, eqb-true, eqb-false}
 use Rattle.format.specs.declared.Counted.{Counted}
 use Rattle.format.specs.Text.{pick, textOf, noText}
-use Rattle.format.specs.Count.{NEGATIVE, limitOf, over, wordAt}
+use Rattle.format.specs.Count.{NEGATIVE, limitOf, tooMany, wordAt}
 use Rattle.format.specs.Step.{pass, text}
 use Rattle.format.specs.Prog.{Prog, Refusal, ret, refuse, Res, ok, stopped, run, bind, turns, whenLe, whenEq, whenBits}
 use Rattle.format.specs.Fields.{u8, number, skip, textBytes, count}
@@ -114,8 +114,8 @@ second-false true b e = clash (cc)
 second-false false b e = e
 
 -- a count is within its limit
-pub within-limit : (which : Counted) (v : ℕ) → over which v ≡ false → v ≤ limitOf which
-unfolding over
+pub within-limit : (which : Counted) (v : ℕ) → tooMany which v ≡ false → v ≤ limitOf which
+unfolding tooMany
 within-limit which v e = ltb-false _ _ (second-false (leb NEGATIVE v) (ltb (limitOf which) v) e)
 
 pub yield-count : {s : List ℕ} {at : ℕ} (which : Counted)

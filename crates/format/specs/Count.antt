@@ -29,8 +29,8 @@ abbrev pub NEGATIVE : ℕ
 NEGATIVE = 2147483648
 
 -- a count that is refused: negative, or over its limit
-unfoldable pub over : Counted → ℕ → Bool
-over which v = leb NEGATIVE v || ltb (limitOf which) v
+unfoldable pub tooMany : Counted → ℕ → Bool
+tooMany which v = leb NEGATIVE v || ltb (limitOf which) v
 
 -- bytes as a number, the least first
 unfoldable pub little : List ℕ → ℕ

@@ -8,7 +8,7 @@ use Rattle.format.specs.declared.Counted.{Counted}
 use Rattle.format.specs.declared.Stop.{Stop}
 use Rattle.format.specs.declared.Stop.the-variants.{Count}
 use Rattle.format.specs.Text.{TextRead, pick, textOf, zeroAt}
-use Rattle.format.specs.Count.{over, little, asWord}
+use Rattle.format.specs.Count.{tooMany, little, asWord}
 use Rattle.format.specs.Sign.{notNegative}
 
 -- a byte that is kept; n bytes that are passed over; a byte of which the sign alone is handed on (document 02, n); n bytes of text, of
@@ -58,7 +58,7 @@ judged byte at v = fine
 judged (pass n) at v = fine
 judged sign at v = fine
 judged (text n) at v = fine
-judged (counted c) at v = pick (over c v) (stops (Count c v (asWord at))) fine
+judged (counted c) at v = pick (tooMany c v) (stops (Count c v (asWord at))) fine
 
 -- ---- what becomes of its bytes, where it stands at a position of the file s
 -- the byte at position i is kept: it reaches the answer, or decides it. Of a text these are its bytes as far as its first zero byte, which

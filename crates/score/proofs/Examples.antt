@@ -60,9 +60,9 @@ pub record Refused : Type 0 where
   pub notices : run (file tallying) tooManyNotices 0 ≡ stopped (Count NoticeLines 1001 71)
 
 pub smallest-files : Smallest
-unfolding FText.blank FText.cutLen FText.leadLen FText.keepNext FText.keepLen FText.cut FText.trim FText.rangeOf FText.textOf FText.noText FCount.over FCount.little FCount.asWord FProg.run FProg.bind FProg.turns FProg.whenLe FProg.whenEq FProg.whenBits FFields.u8 FFields.number FFields.skip FFields.textBytes FFields.count FFields.stringOf FFields.stringPast FFields.fixedString FFields.intByteStringUnused FFields.intByteStringUnusedPast FFields.intString FFields.lessOne FFields.intByteString FFields.intByteStringPast SVersion.starts SVersion.isFamily SVersion.isDigit SVersion.digitsLen SVersion.digitsFrom SVersion.short SVersion.unplussed SVersion.versionNumber SVersion.versionOf SVersion.accepted SVersion.version SInfo.names SInfo.music SInfo.composerOf SInfo.credits SInfo.notices SInfo.noInfo SInfo.info SInfo.tripletFeel SInfo.lyricTrack SInfo.lyricLine SInfo.fiveLines SInfo.lyrics SSetup.equalizer SSetup.templates SSetup.page MKinds.tempoFrom SSetup.hideTempo SSetup.octave SSetup.tempo SSetup.setup SSetup.programOf SSetup.channel SSetup.noPort SSetup.nextChannel SSetup.port SSetup.noPorts SSetup.nextPort SSetup.channelTable SSetup.barNumber SSetup.noDirections SSetup.nextDirection SSetup.nineteen SSetup.directions SHeader.notEmpty SHeader.noCounts SHeader.counts FProg.has SHeader.commonTime SHeader.powerOfTwo SHeader.timeOf SHeader.time SHeader.repeatCount SHeader.endingByte SHeader.marker SHeader.fifthsOf SHeader.modeOf SHeader.key SHeader.headerMarks SHeader.beams SHeader.headerTail SHeader.endingOf SHeader.passesOf SHeader.endingNumber SHeader.noHeader SHeader.headerOf SHeader.header STrack.noTunings STrack.nextTuning STrack.tunings STrack.noStrings STrack.strings STrack.numbered STrack.sound STrack.effect STrack.staff STrack.tablatureOf STrack.low STrack.clefOf STrack.channelProgram STrack.noTrack STrack.trackOf STrack.track CHeld.held opening voices oneHeader headers oneTrack tracks oneBeat voice barTrack bar bars score file
+unfolding FText.blank FText.cutLen FText.leadLen FText.keepNext FText.keepLen FText.cut FText.trim FText.rangeOf FText.textOf FText.noText FCount.tooMany FCount.little FCount.asWord FProg.run FProg.bind FProg.turns FProg.whenLe FProg.whenEq FProg.whenBits FFields.u8 FFields.number FFields.skip FFields.textBytes FFields.count FFields.stringOf FFields.stringPast FFields.fixedString FFields.intByteStringUnused FFields.intByteStringUnusedPast FFields.intString FFields.lessOne FFields.intByteString FFields.intByteStringPast SVersion.starts SVersion.isFamily SVersion.isDigit SVersion.digitsLen SVersion.digitsFrom SVersion.short SVersion.unplussed SVersion.versionNumber SVersion.versionOf SVersion.accepted SVersion.version SInfo.names SInfo.music SInfo.composerOf SInfo.credits SInfo.notices SInfo.noInfo SInfo.info SInfo.tripletFeel SInfo.lyricTrack SInfo.lyricLine SInfo.fiveLines SInfo.lyrics SSetup.equalizer SSetup.templates SSetup.page MKinds.tempoFrom SSetup.hideTempo SSetup.octave SSetup.tempo SSetup.setup SSetup.programOf SSetup.channel SSetup.noPort SSetup.nextChannel SSetup.port SSetup.noPorts SSetup.nextPort SSetup.channelTable SSetup.barNumber SSetup.noDirections SSetup.nextDirection SSetup.nineteen SSetup.directions SHeader.notEmpty SHeader.noCounts SHeader.counts FProg.has SHeader.commonTime SHeader.powerOfTwo SHeader.timeOf SHeader.time SHeader.repeatCount SHeader.endingByte SHeader.marker SHeader.fifthsOf SHeader.modeOf SHeader.key SHeader.headerMarks SHeader.beams SHeader.headerTail SHeader.endingOf SHeader.passesOf SHeader.endingNumber SHeader.noHeader SHeader.headerOf SHeader.header STrack.noTunings STrack.nextTuning STrack.tunings STrack.noStrings STrack.strings STrack.numbered STrack.sound STrack.effect STrack.staff STrack.tablatureOf STrack.low STrack.clefOf STrack.channelProgram STrack.noTrack STrack.trackOf STrack.track CHeld.held opening voices oneHeader headers oneTrack tracks oneBeat voice barTrack bar bars score file
 smallest-files = record { v3-00 = refl; v4-00 = refl; v5-00 = refl; v5-10 = refl }
 
 pub refused-files : Refused
-unfolding FText.blank FText.cutLen FText.leadLen FText.keepNext FText.keepLen FText.cut FText.trim FText.rangeOf FText.textOf FText.noText FCount.over FCount.little FCount.asWord FProg.run FProg.bind FProg.turns FProg.whenLe FProg.whenEq FProg.whenBits FFields.u8 FFields.number FFields.skip FFields.textBytes FFields.count FFields.stringOf FFields.stringPast FFields.fixedString FFields.intByteStringUnused FFields.intByteStringUnusedPast FFields.intString FFields.lessOne FFields.intByteString FFields.intByteStringPast SVersion.starts SVersion.isFamily SVersion.isDigit SVersion.digitsLen SVersion.digitsFrom SVersion.short SVersion.unplussed SVersion.versionNumber SVersion.versionOf SVersion.accepted SVersion.version SInfo.names SInfo.music SInfo.composerOf SInfo.credits SInfo.notices SInfo.noInfo SInfo.info SInfo.tripletFeel SInfo.lyricTrack SInfo.lyricLine SInfo.fiveLines SInfo.lyrics SSetup.equalizer SSetup.templates SSetup.page MKinds.tempoFrom SSetup.hideTempo SSetup.octave SSetup.tempo SSetup.setup SSetup.programOf SSetup.channel SSetup.noPort SSetup.nextChannel SSetup.port SSetup.noPorts SSetup.nextPort SSetup.channelTable SSetup.barNumber SSetup.noDirections SSetup.nextDirection SSetup.nineteen SSetup.directions SHeader.notEmpty SHeader.noCounts SHeader.counts FProg.has SHeader.commonTime SHeader.powerOfTwo SHeader.timeOf SHeader.time SHeader.repeatCount SHeader.endingByte SHeader.marker SHeader.fifthsOf SHeader.modeOf SHeader.key SHeader.headerMarks SHeader.beams SHeader.headerTail SHeader.endingOf SHeader.passesOf SHeader.endingNumber SHeader.noHeader SHeader.headerOf SHeader.header STrack.noTunings STrack.nextTuning STrack.tunings STrack.noStrings STrack.strings STrack.numbered STrack.sound STrack.effect STrack.staff STrack.tablatureOf STrack.low STrack.clefOf STrack.channelProgram STrack.noTrack STrack.trackOf STrack.track CHeld.held opening voices oneHeader headers oneTrack tracks oneBeat voice barTrack bar bars score file
+unfolding FText.blank FText.cutLen FText.leadLen FText.keepNext FText.keepLen FText.cut FText.trim FText.rangeOf FText.textOf FText.noText FCount.tooMany FCount.little FCount.asWord FProg.run FProg.bind FProg.turns FProg.whenLe FProg.whenEq FProg.whenBits FFields.u8 FFields.number FFields.skip FFields.textBytes FFields.count FFields.stringOf FFields.stringPast FFields.fixedString FFields.intByteStringUnused FFields.intByteStringUnusedPast FFields.intString FFields.lessOne FFields.intByteString FFields.intByteStringPast SVersion.starts SVersion.isFamily SVersion.isDigit SVersion.digitsLen SVersion.digitsFrom SVersion.short SVersion.unplussed SVersion.versionNumber SVersion.versionOf SVersion.accepted SVersion.version SInfo.names SInfo.music SInfo.composerOf SInfo.credits SInfo.notices SInfo.noInfo SInfo.info SInfo.tripletFeel SInfo.lyricTrack SInfo.lyricLine SInfo.fiveLines SInfo.lyrics SSetup.equalizer SSetup.templates SSetup.page MKinds.tempoFrom SSetup.hideTempo SSetup.octave SSetup.tempo SSetup.setup SSetup.programOf SSetup.channel SSetup.noPort SSetup.nextChannel SSetup.port SSetup.noPorts SSetup.nextPort SSetup.channelTable SSetup.barNumber SSetup.noDirections SSetup.nextDirection SSetup.nineteen SSetup.directions SHeader.notEmpty SHeader.noCounts SHeader.counts FProg.has SHeader.commonTime SHeader.powerOfTwo SHeader.timeOf SHeader.time SHeader.repeatCount SHeader.endingByte SHeader.marker SHeader.fifthsOf SHeader.modeOf SHeader.key SHeader.headerMarks SHeader.beams SHeader.headerTail SHeader.endingOf SHeader.passesOf SHeader.endingNumber SHeader.noHeader SHeader.headerOf SHeader.header STrack.noTunings STrack.nextTuning STrack.tunings STrack.noStrings STrack.strings STrack.numbered STrack.sound STrack.effect STrack.staff STrack.tablatureOf STrack.low STrack.clefOf STrack.channelProgram STrack.noTrack STrack.trackOf STrack.track CHeld.held opening voices oneHeader headers oneTrack tracks oneBeat voice barTrack bar bars score file
 refused-files = record { notices = refl }

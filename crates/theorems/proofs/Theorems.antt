@@ -9,7 +9,7 @@ use lib.ListN.{length, getD, take}
 use lib.IntN.{ℤ}
 use Rattle.bin.specs.Signed.{signed}
 use Rattle.format.specs.declared.Counted.{Counted}
-use Rattle.format.specs.Count.{over, wordAt}
+use Rattle.format.specs.Count.{tooMany, wordAt}
 use Rattle.format.specs.Sign.{notNegative}
 use Rattle.format.specs.Alike.{Alike, Kept, Signed}
 use Rattle.format.specs.Passed.{Skipped}
@@ -177,7 +177,7 @@ module _ {d : List ℕ} {t : Tables} {r : Result} {which : Counted} {value : ℤ
   found = let v = count-verdict t d (rw (p .is) at told) in (v .0, v .1, count-refused scored d which (v .0) offset (v .2))
 
   -- "the offset of the four count bytes": they are in the file, the value is theirs, and it is over the count's limit
-  pub count-stands-there : (offset + 4 ≤ length d) × (value ≡ signed 2147483648 (wordAt d offset)) × (over which (wordAt d offset) ≡ true)
+  pub count-stands-there : (offset + 4 ≤ length d) × (value ≡ signed 2147483648 (wordAt d offset)) × (tooMany which (wordAt d offset) ≡ true)
   count-stands-there =
       let c = found .2 in
       (c .there, found .1 ∙ ap (signed 2147483648) (c .value), rw (c .value) at (c .high))
@@ -190,7 +190,7 @@ module _ {d : List ℕ} {t : Tables} {r : Result} {which : Counted} {value : ℤ
 
     module _ (there : offset + 4 ≤ length e) where
       -- is refused for its own four bytes where these are over the limit,
-      pub count-judged : over which (wordAt e offset) ≡ true
+      pub count-judged : tooMany which (wordAt e offset) ≡ true
           → q ≡ refused (refusal (O.Count which (signed 2147483648 (wordAt e offset)) offset)) u
       count-judged high = o .is ∙ verdict-reading e u _ (found .2 .refuses e same there high)
 
@@ -201,7 +201,7 @@ module _ {d : List ℕ} {t : Tables} {r : Result} {which : Counted} {value : ℤ
           ∙ rw (count-stands-there .1, equal)
 
       -- and else is refused for no count that stands before their end
-      pub count-behind : over which (wordAt e offset) ≡ false → {which′ : Counted} {value′ : ℤ} {offset′ : ℕ}
+      pub count-behind : tooMany which (wordAt e offset) ≡ false → {which′ : Counted} {value′ : ℤ} {offset′ : ℕ}
           → q .answer .outcome ≡ O.Count which′ value′ offset′ → offset + 4 ≤ offset′
       count-behind low {which′} {value′} {offset′} h =
           let v = count-verdict u e (rw (o .is) at h) in
