@@ -15,7 +15,7 @@ void fungusleigh_read(const uint8_t *data, size_t bytes, uint32_t *bars, size_t,
 enum { TABLES = 6, SAID = 17, OUTCOME = 0, USED = 1, ROOMS = 8, NO_ROOM = 6 };
 enum { STACK = 4 << 20, EDGE = 4096, MARK = 0xA5 };
 
-static const size_t entry[TABLES] = {16, 16, 28, 8, 2, 4}; /* words of an entry: docs/TABLES.md */
+static const size_t entry[TABLES] = {16, 16, 30, 8, 2, 4}; /* words of an entry: docs/TABLES.md */
 static uint32_t *table[TABLES], said[SAID];
 static size_t words[TABLES];
 

@@ -50,6 +50,16 @@ GP5 = [
     (1, 'format!("Guitar Pro {what} count {value} is out of range")', 'format!("Guitar Pro {what} count {value} is out of range at {at}")',
      "the offset of a count that is refused"),
 
+    # Where a beat stands (document 02, f): the positions before its flags and after its last byte.
+    (1, "let flags = self.bin.u8()?;\n        let dotted", "let start = self.bin.pos; let flags = self.bin.u8()?;\n        let dotted",
+     "the first byte of a beat"),
+    (1, "if empty {", "let beat = start..self.bin.pos; if empty {",
+     "the end of a beat: nothing of it is read from here on"),
+    (1, "note.dot_count = u8::from(dotted);", "note.beat = beat.clone(); note.dot_count = u8::from(dotted);",
+     "the range of a row's beat"),
+    (1, "grace_note.is_grace = true;", "grace_note.is_grace = true; grace_note.beat = beat;",
+     "a grace row has the range of its beat"),
+
     # Handing out what the answer and the tables hold but Score does not.
     (1, "version: u16,", "version: u16, rooms: acorde_core::Rooms,",
      "room for the two counts below"),

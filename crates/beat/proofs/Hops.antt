@@ -72,6 +72,7 @@ module _ {s : List ℕ} {past next : ℕ} {o : Ottava} (v at : ℕ) (room : at +
   abbrev plainBeat : BeatIs
   plainBeat =
       record {
+        range = record { start = at; end = next };
         head = headOf (getD s at 0) 0x02 (getD s (at + 1) 0) 0;
         chord = noText;
         text = noText;
@@ -82,18 +83,18 @@ module _ {s : List ℕ} {past next : ℕ} {o : Ottava} (v at : ℕ) (room : at +
         ottava = o;
       }
 
-  notes-on : Arrives (beatNotes v (plainBeat .head) noText noText noEffects noMix) s (at + 2) plainBeat (At next)
+  notes-on : Arrives (beatNotes v at (plainBeat .head) noText noText noEffects noMix) s (at + 2) plainBeat (At next)
   unfolding beatNotes
   notes-on =
       let there : next ≤ length s = omega (arith, g .near) in
       pad.and-on _ (pad-byte-to refl (omega arith))
-      (pad.and-then _ refl (g .reads) (pad.and-on _ t (pad.arrived (sym (pad.place-there s next there)))))
+      (pad.and-then _ refl (g .reads) (pad.and-on _ t (pad.and-on _ pad.pad-position (pad.arrived (sym (pad.place-there s next there))))))
 
   beat-on : Arrives (beat v) s at plainBeat (At next)
   unfolding beat beatBy headOf
   beat-on =
-      pad.and-on _ (plain-head h)
-      (pad.and-on _ (no-chord _ h v) (pad.and-on _ (no-text _ h) (pad.and-on _ (without-effects _ h v) (pad.and-on _ (no-mix _ h v) notes-on))))
+      pad.and-on _ pad.pad-position (pad.and-on _ (plain-head h)
+      (pad.and-on _ (no-chord _ h v) (pad.and-on _ (no-text _ h) (pad.and-on _ (without-effects _ h v) (pad.and-on _ (no-mix _ h v) notes-on)))))
 
   hopped : Hopped v s (At at) next (getD s (at + 2) 0)
   unfolding headOf has hopsBeat

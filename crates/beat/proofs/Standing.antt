@@ -9,7 +9,7 @@ use Rattle.format.specs.Prog.{Prog, has}
 use Rattle.format.specs.Count.{NEGATIVE}
 use Rattle.format.specs.Fields.{u8, u32, fixedString, intByteString, intByteStringUnused}
 use Rattle.format.specs.Passed.{Reads, Has}
-use Rattle.format.proofs.Standing.{somewhere, reads-parts, reads-ret, reads-le, reads-gt, reads-eq, reads-ne, reads-bits}
+use Rattle.format.proofs.Standing.{somewhere, reads-parts, reads-ret, reads-here, reads-le, reads-gt, reads-eq, reads-ne, reads-bits}
 use Rattle.note.specs.Optional.{moreFlags}
 use Rattle.note.specs.Points.{whammy}
 use Rattle.note.specs.Notes.{notes}
@@ -73,7 +73,7 @@ durations-has x given w = reads-parts _ _ w (λ _ _ a w. reads-parts _ _ w (λ _
 module _ {B : Type 0} {s : List ℕ} {q : Prog B} {from at n : ℕ} where
   pub beat-has : (v : ℕ) {x : BeatIs} → Reads s q from (beat v) at x n → BeatHas s q from v at
   unfolding beat beatBy beatNotes head headOf
-  beat-has v w = reads-parts _ _ w (λ h _ w' w. reads-parts _ _ w' (λ f fm a w'. reads-parts _ _ w' (λ _ _ _ w'.
+  beat-has v w = reads-parts _ _ w (λ _ _ p w. let k = reads-here p .1 in reads-parts _ _ (rw (← k) at w) (λ h _ w' w. reads-parts _ _ w' (λ f fm a w'. reads-parts _ _ w' (λ _ _ _ w'.
       reads-parts _ _ w' (λ _ _ _ w'. reads-parts _ _ w' (λ _ _ _ w'.
       let z = reads-ret _ w' in
       let e : f ≡ h .flags = λ i. z i .flags in
@@ -90,7 +90,7 @@ module _ {B : Type 0} {s : List ℕ} {q : Prog B} {from at n : ℕ} where
         strung = (_, _, k);
         notes = somewhere l;
         tail = somewhere o;
-      }))))))))))))
+      })))))))))))))
 
   -- a whammy, by flag 0x04 of the second byte of effects
   pub effects-has : (v flags : ℕ) {x : BeatEffects} → Reads s q from (beatEffects v flags) at x n → has flags 0x08 ≡ true

@@ -30,7 +30,7 @@ use Rattle.beat.specs.declared.mix.Mix.{Mix}
 use Rattle.beat.specs.Head.{headOf, status, tuplet}
 use Rattle.beat.specs.Effects.{brushOf, strokeOf, effectsOf, brush, stroke, effectsBy}
 use Rattle.beat.specs.Tail.{ottavaOf}
-use Rattle.beat.specs.Beat.{BeatIs, beatNotes}
+use Rattle.beat.specs.Beat.{BeatIs, beatNotes, beatBy}
 
 -- ---- the places of the words, in the file's order
 abbrev pub FLAGS : ℕ
@@ -83,6 +83,10 @@ STRINGS = 17
 
 abbrev pub OTTAVA : ℕ
 OTTAVA = 18
+
+-- where the beat itself stands, known at its end
+abbrev pub RANGE-START : ℕ
+RANGE-START = 19
 
 -- a number of four bytes
 unfoldable pub numberIn : List ℕ → ℕ → ℕ
@@ -155,6 +159,7 @@ bareIn b =
 abbrev pub endIn : List ℕ → (v : ℕ) → Head → (chord text : TextRead) → BeatEffects → Mix → (b w : List ℕ) → BeatIs
 endIn s v h c t e m b w =
     record {
+      range = rangeIn true b RANGE-START;
       head = h;
       chord = c;
       text = t;
@@ -165,10 +170,14 @@ endIn s v h c t e m b w =
       ottava = ottavaIn b;
     }
 
+-- what stands after the head
+abbrev pub behindIn : List ℕ → (v : ℕ) → Head → (b w : List ℕ) → BeatIs
+behindIn s v h b w =
+    endIn s v h (textIn s (chordIn (byteIn b FLAGS) b)) (textIn s (textRange (byteIn b FLAGS) b)) (effectsIn v b) (mixIn (byteIn b FLAGS) b) b w
+
 -- a beat of a file of version v, by its words and those of its notes
 abbrev pub beatIn : List ℕ → (v : ℕ) → (b w : List ℕ) → BeatIs
-beatIn s v b w =
-    endIn s v (headIn b) (textIn s (chordIn (byteIn b FLAGS) b)) (textIn s (textRange (byteIn b FLAGS) b)) (effectsIn v b) (mixIn (byteIn b FLAGS) b) b w
+beatIn s v b w = behindIn s v (headIn b) b w
 
 -- ---- parts of the format's programs that stand behind flags
 abbrev pub headEnd : (flags : ℕ) → Prog Head
@@ -193,9 +202,14 @@ pub record RangeStored (k : ℕ) (range : Range) (before after : List ℕ) : Typ
   pub below : Kept k before after
 
 -- what stands after the mix table, whatever was read before
-pub record NotesTo (v : ℕ) (s : List ℕ) (from : Place) (before after w : List ℕ) (to : Place) : Type 0 where
-  pub reads : (h : Head) (c t : TextRead) (e : BeatEffects) (m : Mix) → Reaches (beatNotes v h c t e m) s from (endIn s v h c t e m after w) to
+pub record NotesTo (v start : ℕ) (s : List ℕ) (from : Place) (before after w : List ℕ) (to : Place) : Type 0 where
+  pub reads : (h : Head) (c t : TextRead) (e : BeatEffects) (m : Mix) → Reaches (beatNotes v start h c t e m) s from (endIn s v h c t e m after w) to
   pub below : Kept STRINGS before after
+
+-- what stands after the head, whose words stand already
+pub record BehindHead (v start : ℕ) (s : List ℕ) (from : Place) (before after w : List ℕ) (to : Place) : Type 0 where
+  pub reads : Reaches (beatBy v start (headIn before)) s from (behindIn s v (headIn before) after w) to
+  pub below : Kept CHORD-START before after
 
 -- brush and pick stroke: whatever the version is, and whatever was read before
 pub record StrokesTo (flags more : ℕ) (s : List ℕ) (at : ℕ) (before after : List ℕ) (to : Place) : Type 0 where

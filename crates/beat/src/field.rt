@@ -1,5 +1,6 @@
 // What the words of a beat say: a function for each field.
 ghost use mathlib.Core.Path.{_≡_};
+ghost use mathlib.Core.Bool.{true};
 ghost use Prim.Native.Nat.{ℕ};
 ghost use Rattle.note.specs.Words.{byteIn};
 ghost use Rattle.beat.specs.Effects as effects;
@@ -76,6 +77,16 @@ pub fn text(b: &Beat) -> Range
     Range {
         start: b[places::TEXT_START],
         end: b[places::TEXT_END],
+    }
+}
+
+// Where the beat itself stands.
+pub fn range(b: &Beat) -> Range
+    ensures { λ r. ⌜ r ≡ meaning.rangeIn true (now (b .entry)) meaning.RANGE-START ⌝ }
+{
+    Range {
+        start: b[places::RANGE_START],
+        end: b[places::RANGE_END],
     }
 }
 

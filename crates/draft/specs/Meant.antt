@@ -25,6 +25,7 @@ drawn members curve d =
       head = d .head;
       ottava = d .ottava;
       chord = d .chord;
+      beat = d .beat;
     }
 
 -- the curve is that of its bend

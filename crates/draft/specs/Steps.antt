@@ -4,6 +4,7 @@ use mathlib.Core.Path.{_≡_}
 use mathlib.Core.List.{List, [], _∷_}
 use mathlib.Core.Bool.{Bool, true, false, _||_}
 use lib.Dec.{eqb}
+use Rattle.format.specs.declared.Range.{Range}
 use Rattle.format.specs.Text.{pick}
 use Rattle.model.specs.declared.Articulation.{Articulation}
 use Rattle.model.specs.declared.Articulations.{Articulations}
@@ -91,8 +92,8 @@ gracedIf NoGrace x = x
 gracedIf (Before g) x = gracedBy g x
 
 -- `graceRow` of Rows but for its members
-unfoldable pub graceDraft : RowPlace → Graces → Draft
-graceDraft place x =
+unfoldable pub graceDraft : RowPlace → Range → Graces → Draft
+graceDraft place beat x =
     record {
       place = place;
       kind = K.Grace;
@@ -107,4 +108,5 @@ graceDraft place x =
       head = x .head;
       ottava = NoOttava;
       chord = record { start = 0; end = 0 };
+      beat = beat;
     }

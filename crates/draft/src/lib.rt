@@ -37,4 +37,5 @@ pub struct Draft {
     pub head: NoteHead,
     pub ottava: Ottava,
     pub chord: Range,
+    pub beat: Range,
 }

@@ -22,6 +22,7 @@ use curve::level::Level;
 use curve::level::LevelAfter;
 use curve::level::level_after;
 use format::NO_RANGE;
+use format::Range;
 use model::Arpeggio;
 use model::Duration;
 use model::NoteHead;
@@ -61,6 +62,7 @@ fn rest_row(place: RowPlace, b: &Beat) -> Draft
 {
     let ottava = beat::field::ottava(b);
     let chord = beat::field::chord(b);
+    let range = beat::field::range(b);
     Draft {
         place,
         kind: RowKind::Beat,
@@ -75,6 +77,7 @@ fn rest_row(place: RowPlace, b: &Beat) -> Draft
         head: NoteHead::Normal,
         ottava,
         chord,
+        beat: range,
     }
 }
 
@@ -96,6 +99,7 @@ fn chord_row(place: RowPlace, running: u8, b: &Beat, notes: &Notes, chord: &[u32
     let head = head_of(notes, chord);
     let ottava = beat::field::ottava(b);
     let name = beat::field::chord(b);
+    let range = beat::field::range(b);
     Draft {
         place,
         kind: RowKind::Beat,
@@ -110,6 +114,7 @@ fn chord_row(place: RowPlace, running: u8, b: &Beat, notes: &Notes, chord: &[u32
         head,
         ottava,
         chord: name,
+        beat: range,
     }
 }
 
@@ -133,9 +138,9 @@ pub fn beat_row(
     chord_row(place, running, b, notes, chord, v)
 }
 
-// The row of graces that give it so much.
-pub fn grace_row(place: RowPlace, x: Graces) -> Draft
-    ensures { λ r. ⌜ r ≡ graceDraft place x ⌝ }
+// The row of graces that give it so much; its bytes are those of their beat.
+pub fn grace_row(place: RowPlace, beat: Range, x: Graces) -> Draft
+    ensures { λ r. ⌜ r ≡ graceDraft place beat x ⌝ }
 {
     let text = x.text;
     let technique = x.technique;
@@ -158,5 +163,6 @@ pub fn grace_row(place: RowPlace, x: Graces) -> Draft
         head,
         ottava: Ottava::NoOttava,
         chord: NO_RANGE,
+        beat,
     }
 }

@@ -49,6 +49,7 @@ pub record RowFits (r : Row) : Type 0 where
   pub height : HeightFits (r .playing .height)
   pub count : r .expression .articulations .count < 256
   pub chord : RangeFits (r .chord)
+  pub beat : RangeFits (r .beat)
 
 pub record MemberFits (m : Member) : Type 0 where
   pub key : m .key < 256

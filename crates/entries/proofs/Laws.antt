@@ -94,7 +94,7 @@ row-back x f =
     rw (row-kind-back (x .kind), flag-back (x .rest), duration-back (x .value .duration), flag-back (x .value .dot), tuplet-back (x .value .tuplet) (f .tuplet))
     (rw (technique-text-back (x .playing .text), technique-back (x .playing .technique), height-back (x .playing .height) (f .height))
     (rw (dynamic-back (x .expression .dynamic), mod-eq-of-lt (f .count), div-add-mod' (a .digits) 4294967296, arpeggio-back (x .expression .arpeggio), note-head-back (x .expression .head))
-    (rw (ottava-back (x .ottava .start), flag-back (x .ottava .end), mod-eq-of-lt (f .chord .start), mod-eq-of-lt (f .chord .end), finger-back (x .finger)))))
+    (rw (ottava-back (x .ottava .start), flag-back (x .ottava .end), mod-eq-of-lt (f .chord .start), mod-eq-of-lt (f .chord .end), finger-back (x .finger), mod-eq-of-lt (f .beat .start), mod-eq-of-lt (f .beat .end)))))
 
 -- ---- entries of a table
 

@@ -48,6 +48,7 @@ withTechnique q r = record {
   ottava = r .ottava;
   chord = r .chord;
   finger = r .finger;
+  beat = r .beat;
 }
 
 abbrev pub withOttavaEnd : Bool → Row → Row
@@ -62,6 +63,7 @@ withOttavaEnd e r = record {
   ottava = record { start = r .ottava .start; end = e };
   chord = r .chord;
   finger = r .finger;
+  beat = r .beat;
 }
 
 abbrev pub withTieStart : Bool → Member → Member

@@ -125,7 +125,7 @@ trackAt t i = pick (eqb (length (entry t i trackStride)) 0) NoTrack (ThisTrack (
 
 -- ---- rows
 abbrev pub rowStride : ℕ
-rowStride = 28
+rowStride = 30
 
 -- place, kind, rest, duration, dot, tuplet, members; technique text, technique, curve, height
 unfoldable pub frontWords : Row → List ℕ
@@ -136,14 +136,16 @@ frontWords r =
     ∷ techniqueTextWord (r .playing .text) ∷ techniqueWord (r .playing .technique) ∷ r .playing .curve .first ∷ r .playing .curve .count
     ∷ peakWord (r .playing .height) ∷ heightWord (r .playing .height) ∷ []
 
--- dynamic, articulations (their number, and their digits in two words), arpeggio, note head; ottava start and end, chord name, finger
+-- dynamic, articulations (their number, and their digits in two words), arpeggio, note head; ottava start and end, chord name, finger,
+-- the beat's start and end in the file
 unfoldable pub backWords : Row → List ℕ
 backWords r =
     dynamicWord (r .expression .dynamic) ∷ r .expression .articulations .count
     ∷ r .expression .articulations .digits / 4294967296 ∷ r .expression .articulations .digits % 4294967296
     ∷ arpeggioWord (r .expression .arpeggio) ∷ noteHeadWord (r .expression .head)
     ∷ ottavaWord (r .ottava .start) ∷ flagWord (r .ottava .end)
-    ∷ r .chord .start % 4294967296 ∷ r .chord .end % 4294967296 ∷ fingerWord (r .finger) ∷ []
+    ∷ r .chord .start % 4294967296 ∷ r .chord .end % 4294967296 ∷ fingerWord (r .finger)
+    ∷ r .beat .start % 4294967296 ∷ r .beat .end % 4294967296 ∷ []
 
 unfoldable pub rowWords : Row → List ℕ
 rowWords r = frontWords r ++ backWords r
@@ -195,6 +197,7 @@ rowOf l = record {
   ottava = ottavaMarksOf l;
   chord = rangeOf (getD l 25 0) (getD l 26 0);
   finger = fingerOf (getD l 27 0);
+  beat = rangeOf (getD l 28 0) (getD l 29 0);
 }
 
 unfoldable pub rowAt : List ℕ → ℕ → RowAt

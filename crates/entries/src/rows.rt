@@ -18,7 +18,7 @@ ghost use Rattle.tables.specs.Table.{room};
 ghost use Rattle.model.specs.Kinds.{techniqueWord, flagWord};
 ghost use Rattle.entries.specs.Words.{rowStride, frontWords, backWords, rowWords, placeOf, valueOf, playingOf, articulationsOf, expressionOf, ottavaMarksOf, rowOf, rowAt, techniqueAt, ottavaEndAt};
 
-pub const ROW_WORDS: usize = 28;
+pub const ROW_WORDS: usize = 30;
 
 pub const TECHNIQUE: usize = 12;
 
@@ -60,8 +60,8 @@ fn front_words(x: Row) -> [u32; 17]
     ]
 }
 
-// Dynamic, articulations, arpeggio, note head; ottava, chord name, finger.
-fn back_words(x: Row) -> [u32; 11]
+// Dynamic, articulations, arpeggio, note head; ottava, chord name, finger, the beat's bytes.
+fn back_words(x: Row) -> [u32; 13]
     ensures { λ r. ⌜ r ≡ backWords x ⌝ }
 {
     let expression = x.expression;
@@ -73,6 +73,7 @@ fn back_words(x: Row) -> [u32; 11]
     let start = ottava.start;
     let chord = x.chord;
     let finger = x.finger;
+    let beat = x.beat;
     [
         kinds::dynamic_word(dynamic),
         kinds::byte_word(articulations.count),
@@ -85,6 +86,8 @@ fn back_words(x: Row) -> [u32; 11]
         tables::low(chord.start),
         tables::low(chord.end),
         kinds::finger_word(finger),
+        tables::low(beat.start),
+        tables::low(beat.end),
     ]
 }
 
@@ -190,6 +193,7 @@ pub fn row_of(w: &[u32]) -> Row
     let ottava = ottava_marks_of(w);
     let chord = crate::range_of(tables::load(w, 25), tables::load(w, 26));
     let finger = kinds::finger_of(tables::load(w, 27));
+    let beat = crate::range_of(tables::load(w, 28), tables::load(w, 29));
     Row {
         place,
         kind,
@@ -201,6 +205,7 @@ pub fn row_of(w: &[u32]) -> Row
         ottava,
         chord,
         finger,
+        beat,
     }
 }
 

@@ -13,7 +13,7 @@ use Rattle.format.specs.declared.Counted.{Counted}
 use Rattle.format.specs.declared.Stop.the-variants as S
 use Rattle.format.specs.Text.{pick}
 use Rattle.format.specs.Count.{tooMany, little, wordAt, asWord}
-use Rattle.format.specs.Step.{Step, byte, pass, sign, text, counted, width, Handed, seen, fine, judged}
+use Rattle.format.specs.Step.{Step, byte, pass, sign, text, counted, position, width, Handed, seen, fine, judged}
 use Rattle.format.specs.Prog.{Prog, Refusal, wrongLength, wrongVersion, nothingInside, stopOf, ret, refuse, read, Res, ok, stopped, run}
 use Rattle.format.specs.Verdict.{LIMIT, Verdict, truncated, tooLong, badCount, asVerdict, upTo, verdict}
 use Rattle.format.proofs.Run.{clash, run-ret, run-refuse, read-goes, read-ends, part-take, same-seen, count-goes, count-over}
@@ -97,6 +97,7 @@ read-at {A} (counted b) f s at c v word d later e = go (tooMany b (wordAt s at))
               (record { from = omega arith; there = d; value = refl; high = o; rest = f; comes = λ t g. refl }),
         )
     go false o = fine-at (counted b) f s at c v word d later e (rw o)
+read-at position f s at c v word d later e = fine-at position f s at c v word d later e refl
 
 pub count-at : {A : Type 0} (p : Prog A) (s : List ℕ) (at : ℕ) (c : Counted) (v word : ℕ)
     → run p s at ≡ stopped (S.Count c v word) → Refused p s at c v word

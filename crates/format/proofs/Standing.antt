@@ -8,10 +8,11 @@ use native.Mathlib.Decide.{decLe}
 use lib.Bits.{bitAnd}
 use lib.Dec.{eqb}
 use borrow.Author.Tests.{le-leb, lt-leb, eq-eqb, ne-eqb, not-true}
+use Rattle.format.specs.Step.{position}
 use Rattle.format.specs.Prog.{Prog, ret, ok, run, bind, turns, whenLe, whenEq, whenBits, has}
-use Rattle.format.specs.Fields.{MAXSTRING, stringOf, fixedString, intByteStringUnused, intString, intByteString, lessOne}
+use Rattle.format.specs.Fields.{here, MAXSTRING, stringOf, fixedString, intByteStringUnused, intString, intByteString, lessOne}
 use Rattle.format.specs.Passed.{itself, first, then, Reads, Has, HasText}
-use Rattle.format.proofs.Run.{ret-ok, refuse-ok}
+use Rattle.format.proofs.Run.{ret-ok, refuse-ok, read-ok}
 use Rattle.format.proofs.Passed.{both-read, stands-in}
 
 -- the whole file
@@ -36,6 +37,13 @@ module _ {B : Type 0} {s : List ℕ} {q : Prog B} {from : ℕ} where
   -- what was given back
   pub reads-ret : {A : Type 0} (x : A) {at n : ℕ} {a : A} → Reads s q from (ret x) at a n → x ≡ a
   reads-ret x {at} {n} {a} w = ret-ok s at n a x (w .ran) .0
+
+  -- where a field stands: nothing was read
+  pub reads-here : {at a n : ℕ} → Reads s q from here at a n → (at ≡ a) × (at ≡ n)
+  unfolding here
+  reads-here {at} {a} {n} w =
+      let r = ret-ok s (at + 0) n a at (read-ok s at n a position (λ x. ret x) (w .ran) .2) in
+      (r .0, omega arith)
 
   -- choices
   pub reads-le : {A : Type 0} (p r : Prog A) {a b at n : ℕ} {x : A} → a ≤ b

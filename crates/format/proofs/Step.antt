@@ -11,7 +11,7 @@ use lib.Seq.{ext-getD, getD-take, getD-drop}
 use Rattle.format.specs.Text.{zeroAt}
 use Rattle.format.specs.Count.{little}
 use Rattle.format.specs.Sign.{notNegative}
-use Rattle.format.specs.Step.{Step, byte, pass, sign, text, counted, width, seen, Keeps, Signs, Passes}
+use Rattle.format.specs.Step.{Step, byte, pass, sign, text, counted, position, width, seen, Keeps, Signs, Passes}
 use Rattle.format.proofs.Run.{first-byte}
 use Rattle.format.proofs.Text.{text-by-cut}
 
@@ -23,6 +23,7 @@ module _ (s : List ℕ) (at i : ℕ) where
   keeps-within sign h = absurd h
   keeps-within (text n) h = omega arith
   keeps-within (counted c) h = h
+  keeps-within position h = absurd h
 
   pub signs-within : (k : Step) → Signs k s at i → (at ≤ i) × (i < at + width k)
   signs-within byte h = absurd h
@@ -30,6 +31,7 @@ module _ (s : List ℕ) (at i : ℕ) where
   signs-within sign h = omega arith
   signs-within (text n) h = absurd h
   signs-within (counted c) h = absurd h
+  signs-within position h = absurd h
 
 pub passes-within : (s : List ℕ) (at k n : ℕ) (step : Step) → Passes step s at k n → (at ≤ k) × (k + n ≤ at + width step)
 passes-within s at k n byte h = absurd h
@@ -37,6 +39,7 @@ passes-within s at k n (pass m) h = omega arith
 passes-within s at k n sign h = absurd h
 passes-within s at k n (text m) h = omega arith
 passes-within s at k n (counted c) h = absurd h
+passes-within s at k n position h = absurd h
 
 -- ---- each of them is kept, or its sign alone counts, or it is passed over; and no two of these
 module _ (s : List ℕ) (at i : ℕ) where
@@ -46,6 +49,7 @@ module _ (s : List ℕ) (at i : ℕ) where
   signs-not-kept sign h x = absurd x
   signs-not-kept (text n) h x = absurd h
   signs-not-kept (counted c) h x = absurd h
+  signs-not-kept position h x = absurd h
 
   module _ (k n : ℕ) (l : k ≤ i) (b : i < k + n) where
     pub passes-not-kept : (step : Step) → Passes step s at k n → Keeps step s at i → ⊥
@@ -54,6 +58,7 @@ module _ (s : List ℕ) (at i : ℕ) where
     passes-not-kept sign h x = absurd h
     passes-not-kept (text m) h x = omega arith
     passes-not-kept (counted c) h x = absurd h
+    passes-not-kept position h x = absurd h
 
     pub passes-not-signed : (step : Step) → Passes step s at k n → Signs step s at i → ⊥
     passes-not-signed byte h x = absurd h
@@ -61,6 +66,7 @@ module _ (s : List ℕ) (at i : ℕ) where
     passes-not-signed sign h x = absurd h
     passes-not-signed (text m) h x = absurd x
     passes-not-signed (counted c) h x = absurd h
+    passes-not-signed position h x = absurd h
 
   -- a run of bytes passed over, and i among them
   abbrev pub Over : Step → Type 0
@@ -75,6 +81,7 @@ module _ (s : List ℕ) (at i : ℕ) where
     | no c ↦ inr (inr (zeroAt s at n + 1, at + n - (zeroAt s at n + 1), (refl, omega arith), omega arith, omega arith))
   ]
   one-of-three (counted c) l h = inl (l, h)
+  one-of-three position l h = let w : ⊥ = omega arith in absurd w
 
 -- ---- the same is handed on where the kept bytes are the same, and the signs
 module _ (s t : List ℕ) (at n : ℕ) (d : at + n ≤ length s) (e : at + n ≤ length t) where
@@ -101,3 +108,4 @@ seen-by (counted c) s t at d e h g =
     ap little
     (ext-getD 0 (take 4 (drop at s)) (take 4 (drop at t)) (same-length s t at 4 d e) (λ i l.
     same-at s t at 4 d e i l (λ k. h (at + i) (omega arith, omega arith))))
+seen-by position s t at d e h g = refl

@@ -11,9 +11,9 @@ use borrow.Author.Tests.{leb-true, leb-false, ltb-false, eqb-true, eqb-false}
 use Rattle.format.specs.declared.Counted.{Counted}
 use Rattle.format.specs.Text.{pick, textOf, noText}
 use Rattle.format.specs.Count.{NEGATIVE, limitOf, tooMany, wordAt}
-use Rattle.format.specs.Step.{pass, text}
+use Rattle.format.specs.Step.{pass, text, position}
 use Rattle.format.specs.Prog.{Prog, Refusal, ret, refuse, Res, ok, stopped, run, bind, turns, whenLe, whenEq, whenBits}
-use Rattle.format.specs.Fields.{u8, number, skip, textBytes, count}
+use Rattle.format.specs.Fields.{u8, number, skip, textBytes, count, here}
 use Rattle.format.specs.Fields.{stringOf, fixedString, intByteStringUnused, intByteString}
 use Rattle.format.specs.Yields.{Yields, Onward, Bytes, OfFile}
 use Rattle.format.proofs.Run.{andThen, run-bind, clash, ret-ok, refuse-ok, read-ok, byte-ok, count-ok, run-within}
@@ -94,6 +94,15 @@ module _ {s : List ℕ} {at : ℕ} where
   pub yield-skip : (k : ℕ) → Yields s (skip k) at (λ _ n. n ≡ at + k)
   unfolding skip
   yield-skip k = record { yields = λ l a n e. sym (ret-ok s (at + k) n a tt (read-ok s at n a (pass k) (λ _. ret tt) e .2) .1) }
+
+  -- where a field stands
+  pub yield-here : Yields s here at (λ a n. (a ≡ at) × (n ≡ at))
+  unfolding here
+  yield-here = record {
+    yields = λ l a n e.
+        let w = ret-ok s (at + 0) n a at (read-ok s at n a position (λ x. ret x) e .2) in
+        (sym (w .0), omega arith);
+  }
 
   pub yield-words : (k : ℕ) → Yields s (textBytes k) at (λ t _. OfFile s t)
   unfolding textBytes

@@ -5,7 +5,7 @@ use lib.Dec.{leb}
 use Rattle.format.specs.declared.Counted.{Counted}
 use Rattle.format.specs.Text.{TextRead, pick}
 use Rattle.format.specs.Count.{NEGATIVE}
-use Rattle.format.specs.Step.{byte, pass, sign, text, counted}
+use Rattle.format.specs.Step.{byte, pass, sign, text, counted, position}
 use Rattle.format.specs.Prog.{Prog, ret, refuse, wrongLength, read, bind, whenLe}
 
 unfoldable pub u8 : Prog ℕ
@@ -39,6 +39,10 @@ lessOne v = pick (leb NEGATIVE v) 0 (v - 1)
 -- a count: within its limit, or refused with its value and where it stands
 unfoldable pub count : Counted → Prog ℕ
 count which = read (counted which) (λ v. ret v)
+
+-- where the next field stands; it has no bytes of its own (document 02, f)
+unfoldable pub here : Prog ℕ
+here = read position (λ at. ret at)
 
 -- no text is longer
 abbrev pub MAXSTRING : ℕ

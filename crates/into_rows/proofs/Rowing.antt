@@ -23,6 +23,7 @@ use Rattle.score.specs.Members.{Keyed, Graced, graces}
 use Rattle.score.specs.Rows.{RowIs, curveOf, graceRow, graceRows, beatRow, rowsOf}
 use Rattle.score.specs.Page.{Kind, Operations, Rowing, fingered, rowEntry, ottavaMarks, turnHammer, turnRun, startTies}
 use Rattle.score.specs.Page.{keepRow, keepRows}
+use Rattle.format.specs.declared.Range.{Range}
 use Rattle.draft.specs.declared.Draft.{Draft}
 use Rattle.draft.specs.declared.graces.Graces.{Graces}
 use Rattle.draft.specs.Meant.{drawn, draftIn}
@@ -97,32 +98,32 @@ module _ (s : List ℕ) (kept : KeptCounts) (voice : Voice) (rows members points
         with-members (em ∙ rw en (sym (members-kept (draftIn s ms d)))) ∙ ap (λ (x : RowIs). keepRow (words s) x before) ed
 
 -- ---- the row of graces
-module _ (place : RowPlace) (board : Fretboard) (flat : Bool) where
+module _ (place : RowPlace) (board : Fretboard) (flat : Bool) (beat : Range) where
   pub no-graces : {T : Kind → Type 0} (the : Operations T) (gs : List Graced) (w : Rowing T) {x : Graces} → x ≡ gracesOf gs
       → x .any ≡ false
-      → w ≡ keepRows the (graceRows place board flat gs) w
+      → w ≡ keepRows the (graceRows place board flat beat gs) w
   no-graces the [] w e none = refl
   no-graces the (g ∷ gs) w e none = absurd (true≢false (rw e at none))
 
   some-graces : {T : Kind → Type 0} (the : Operations T) (gs : List Graced) (w : Rowing T) → anyOf gs ≡ true
-      → keepRow the (graceRow place board flat gs) w ≡ keepRows the (graceRows place board flat gs) w
+      → keepRow the (graceRow place board flat beat gs) w ≡ keepRows the (graceRows place board flat beat gs) w
   some-graces the [] w any = absurd (true≢false (sym any))
   some-graces the (g ∷ gs) w any = refl
 
   grace-drawn : (s : List ℕ) (gs : List Graced)
-      → draftIn s (gracesAs board flat gs) (graceDraft place (gracesOf gs)) ≡ graceRow place board flat gs
+      → draftIn s (gracesAs board flat gs) (graceDraft place beat (gracesOf gs)) ≡ graceRow place board flat beat gs
   unfolding graceDraft graceRow pointsAt finish
   grace-drawn s gs = refl
 
   pub graces-kept : (s : List ℕ) (kept : KeptCounts) (voice : Voice) (rows members points : List ℕ) (gs : List Graced) {x : Graces} {d : Draft}
       {r m p : List ℕ} {k : KeptCounts} {v : Voice} → x ≡ gracesOf gs
       → x .any ≡ true
-      → d ≡ graceDraft place x
+      → d ≡ graceDraft place beat x
       → m ≡ stores memberWords memberStride members (kept .members) (fingered (gracesAs board flat gs))
       → rowingOf r (keepRow (words s) (draftIn s (gracesAs board flat gs) d) (rowingOf rows members points kept voice) .members) p k v
       ≡ keepRow (words s) (draftIn s (gracesAs board flat gs) d) (rowingOf rows members points kept voice)
       → rowingOf r m p k v
-      ≡ keepRows (words s) (graceRows place board flat gs) (rowingOf rows members points kept voice)
+      ≡ keepRows (words s) (graceRows place board flat beat gs) (rowingOf rows members points kept voice)
   graces-kept s kept voice rows members points gs {d = d} ex any ed em entered =
       own-kept s kept voice rows members points (gracesAs board flat gs) d entered
       (sym (no-ties board flat (voice .last) gs members)) em (rw (ed, ex) (grace-drawn s gs))
@@ -132,13 +133,13 @@ module _ (place : RowPlace) (board : Fretboard) (flat : Bool) where
 pub both-rows : {T : Kind → Type 0} (the : Operations T) (place : RowPlace) (board : Fretboard) (flat : Bool) (running : ℕ) (b : BeatIs)
     (xs : List Keyed) (w : Rowing T)
     → keepRows the (rowsOf place board flat running b xs) w
-    ≡ keepRow the (beatRow place board flat running b xs) (keepRows the (graceRows place board flat (graces xs)) w)
+    ≡ keepRow the (beatRow place board flat running b xs) (keepRows the (graceRows place board flat (b .range) (graces xs)) w)
 unfolding rowsOf
 both-rows the place board flat running b xs w = by (graces xs)
   where
     by : (gs : List Graced)
-        → keepRows the (graceRows place board flat gs ++ (beatRow place board flat running b xs ∷ [])) w
-        ≡ keepRow the (beatRow place board flat running b xs) (keepRows the (graceRows place board flat gs) w)
+        → keepRows the (graceRows place board flat (b .range) gs ++ (beatRow place board flat running b xs ∷ [])) w
+        ≡ keepRow the (beatRow place board flat running b xs) (keepRows the (graceRows place board flat (b .range) gs) w)
     by [] = refl
     by (g ∷ gs) = refl
 

@@ -1,5 +1,5 @@
 -- The row of a beat of plain notes: its words, what it does to the rows before it, and its tables.
-use Prim.Native.Nat.{ℕ, _*_, _≤_}
+use Prim.Native.Nat.{ℕ, _*_, _≤_, _%_}
 use native.Mathlib.Omega.{arith}
 use native.Mathlib.Nat.{add-zero}
 use mathlib.Core.Path.{_≡_, refl, sym, ap, _∙_}
@@ -90,11 +90,12 @@ module _ (place : RowPlace) (board : Fretboard) (flat : Bool) (mark : Level) (b 
 
   -- ---- its words
   pub plain-stored : (rows : List ℕ) (xs : List Keyed) (kept : KeptCounts) {company : Company} {own : Span}
-      {rest duration dot actual normal dynamic head finger : ℕ} {r : List ℕ}
+      {rest duration dot actual normal dynamic head finger start end : ℕ} {r : List ℕ}
       → r
       ≡ sets rows (kept .rows * rowStride)
       (place .bar ∷ place .track ∷ place .voice ∷ 0 ∷ rest ∷ duration ∷ dot ∷ actual ∷ normal ∷ own .first ∷ own .count
-      ∷ 0 ∷ 0 ∷ 0 ∷ 0 ∷ 0 ∷ 0 ∷ dynamic ∷ 0 ∷ 0 ∷ 0 ∷ 0 ∷ head ∷ 0 ∷ 0 ∷ 0 ∷ 0 ∷ finger ∷ [])
+      ∷ 0 ∷ 0 ∷ 0 ∷ 0 ∷ 0 ∷ 0 ∷ dynamic ∷ 0 ∷ 0 ∷ 0 ∷ 0 ∷ head ∷ 0 ∷ 0 ∷ 0 ∷ 0 ∷ finger
+      ∷ start ∷ end ∷ [])
       → Sums (membersOf xs) company
       → own ≡ spanOf (kept .members) (company .count)
       → rest ≡ flagWord (eqb (company .count) 0)
@@ -105,10 +106,12 @@ module _ (place : RowPlace) (board : Fretboard) (flat : Bool) (mark : Level) (b 
       → dynamic ≡ dynamicWord (dynamicAt mark)
       → head ≡ noteHeadWord (rowHead xs)
       → finger ≡ fingerWord (company .finger)
+      → start ≡ b .range .start % 4294967296
+      → end ≡ b .range .end % 4294967296
       → r ≡ sets rows (kept .rows * rowStride) (rowWords (rowEntry (row xs) noMarks kept))
   unfolding rowWords frontWords backWords rowEntry plainRow curveHeight
-  plain-stored rows xs kept e sums eo er ed et ea en ey eh ef =
-      rw (e, er, ed, et, ea, en, ey, eh, ef, eo, ← (rest-counted xs sums), sums .count, sums .finger)
+  plain-stored rows xs kept e sums eo er ed et ea en ey eh ef es el =
+      rw (e, er, ed, et, ea, en, ey, eh, ef, es, el, eo, ← (rest-counted xs sums), sums .count, sums .finger)
 
   -- ---- its tables
   module _ (s : List ℕ) (xs : List Keyed) (kept : KeptCounts) (voice : Voice) (rows members points : List ℕ) where

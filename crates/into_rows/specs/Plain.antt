@@ -38,4 +38,5 @@ plainRow place board flat mark b xs =
       head = rowHead xs;
       ottava = NoOttava;
       chord = record { start = 0; end = 0 };
+      beat = b .range;
     }

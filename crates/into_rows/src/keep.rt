@@ -100,6 +100,7 @@ fn keep_graces(
     place: RowPlace,
     board: Fretboard,
     flat: bool,
+    b: &Beat,
     notes: &Notes,
     chord: &[u32],
     kept: KeptCounts,
@@ -110,7 +111,8 @@ fn keep_graces(
 ) -> KeptCounts
     requires { ⌜ length (now chord) ≤ 7 ⌝ }
     ensures { λ r. ⌜ rowingIn (now (rows .exit)) (now (members .exit)) (now (points .exit)) r (now (voice .exit))
-        ≡ keepRows (words (now (s .entry))) (graceRows place board flat (graces (chordIn (now (s .entry)) v (now (notes .entry)) (now (chord .entry)))))
+        ≡ keepRows (words (now (s .entry))) (graceRows place board flat (beatIn (now (s .entry)) v (now (b .entry)) (now (notes .entry)) .range)
+        (graces (chordIn (now (s .entry)) v (now (notes .entry)) (now (chord .entry)))))
         (rowingIn (now (rows .entry)) (now (members .entry)) (now (points .entry)) kept (now (voice .entry))) ⌝ }
 {
     let x = graces_of(notes, chord);
@@ -119,7 +121,8 @@ fn keep_graces(
     }
     let count = members::add_graces(members, kept.members, board, flat, notes, chord);
     let company = members::grace_company(notes, chord, count);
-    keep_row(s, grace_row(place, x), company, kept, voice, rows, points)
+    let draft = grace_row(place, beat::field::range(b), x);
+    keep_row(s, draft, company, kept, voice, rows, points)
 }
 
 // The beat's own row.
@@ -189,6 +192,7 @@ fn keep_rows(
         place,
         board,
         flat,
+        b,
         notes,
         sounding,
         kept,

@@ -61,6 +61,7 @@ fn store_plain(
     let head = draft::voicing::head_of(notes, chord);
     let own = crate::rows::span_of(kept.members, company.count);
     let finger = company.finger;
+    let range = beat::field::range(b);
     let words = [
         place.bar,
         place.track,
@@ -90,6 +91,8 @@ fn store_plain(
         0,
         0,
         kinds::finger_word(finger),
+        tables::low(range.start),
+        tables::low(range.end),
     ];
     tables::store_entry(rows, kept.rows as usize, &words);
 }

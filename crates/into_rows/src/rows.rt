@@ -217,6 +217,7 @@ fn row_entry(
     let expression = expression_of(draft);
     let chord = draft.chord;
     let finger = company.finger;
+    let beat = draft.beat;
     Row {
         place,
         kind,
@@ -228,6 +229,7 @@ fn row_entry(
         ottava: marks,
         chord,
         finger,
+        beat,
     }
 }
 

@@ -290,6 +290,8 @@ pub struct Row {
     pub chord: Range,
     // the plain finger of a row's only member
     pub finger: Finger,
+    // the bytes of its beat in the file; a grace row has those of the beat that it stands before
+    pub beat: Range,
 }
 
 // ---- members, curve points, texts

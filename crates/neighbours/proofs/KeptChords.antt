@@ -241,7 +241,7 @@ module _ (bar t v : ℕ) (board : Fretboard) (flat : Bool) (running : ℕ) (b : 
         rest = λ d. absurd (true≢false (sym d));
       }
 
-  graces-ready : (gs : List Graced) → All (Ready t v) (graceRows place board flat gs)
+  graces-ready : (gs : List Graced) → All (Ready t v) (graceRows place board flat (b .range) gs)
   unfolding graceRow
   graces-ready [] = tt
   graces-ready (g ∷ gs) = (
@@ -258,5 +258,5 @@ module _ (bar t v : ℕ) (board : Fretboard) (flat : Bool) (running : ℕ) (b : 
   pub rows-ready : (xs : List Keyed) → All (Ready t v) (rowsOf place board flat running b xs)
   unfolding rowsOf
   rows-ready xs =
-      all-more (Ready t v) (graceRows place board flat (graces xs)) (beatRow place board flat running b xs)
+      all-more (Ready t v) (graceRows place board flat (b .range) (graces xs)) (beatRow place board flat running b xs)
       (graces-ready (graces xs)) (beat-ready xs)

@@ -118,7 +118,7 @@ module _ (s : List ℕ) (at : RowPlace) (board : Fretboard) (flat : Bool) (runni
   beat-members (x ∷ xs) = rw length-map
 
   kept-count : (xs : List Keyed) (gs : List Graced) (w : Rowing Words)
-      → SameCount (keepRows (words s) (graceRows at board flat gs ++ (beatRow at board flat running b xs ∷ [])) w .kept)
+      → SameCount (keepRows (words s) (graceRows at board flat (b .range) gs ++ (beatRow at board flat running b xs ∷ [])) w .kept)
       (keptWith (length xs) (length gs) (w .kept))
   unfolding keepRow graceRow
   kept-count xs [] w = record { rows = refl; members = rw (beat-members xs) }

@@ -149,7 +149,7 @@ module _ (place : RowPlace) (board : Fretboard) (flat : Bool) (running : ℕ) (b
 
   grace-rows-fit : (gs : List Graced) → All (Noted (KeyedFits board room)) gs → length gs ≤ 7
       → (r : RowIs) → RowFit r → length (r .members) ≤ 7 → length (r .curve) ≤ room
-      → RowsFit room (graceRows place board flat gs ++ (r ∷ []))
+      → RowsFit room (graceRows place board flat (b .range) gs ++ (r ∷ []))
   unfolding graceRow graceMember
   grace-rows-fit [] q h r f m c =
       record { rows = omega arith; members = omega arith; points = omega arith; each = (f, tt) }
@@ -187,7 +187,7 @@ module _ (place : RowPlace) (board : Fretboard) (f g : Bool) (running : ℕ) (b 
       }
 
   graces-alike : (gs : List Graced) (r q : RowIs) → AlikeRow r q
-      → AlikeRows (graceRows place board f gs ++ (r ∷ [])) (graceRows place board g gs ++ (q ∷ []))
+      → AlikeRows (graceRows place board f (b .range) gs ++ (r ∷ [])) (graceRows place board g (b .range) gs ++ (q ∷ []))
   unfolding graceRow graceMember
   graces-alike [] r q a = (a, tt)
   graces-alike (y ∷ gs) r q a = (

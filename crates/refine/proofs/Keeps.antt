@@ -90,7 +90,7 @@ module _ (i : ℕ) (rs : List Row) where
   pub pull-off-fits : All RowFits rs → All RowFits (lists .pullOff i rs)
   pull-off-fits f =
       all-change RowFits (withTechnique PullOff)
-      (λ r g. record { tuplet = g .tuplet; height = g .height; count = g .count; chord = g .chord }) rs i f
+      (λ r g. record { tuplet = g .tuplet; height = g .height; count = g .count; chord = g .chord; beat = g .beat }) rs i f
 
   pub length-carry-on : length (lists .carryOn i rs) ≡ length rs
   length-carry-on = length-change (withOttavaEnd false) rs i
@@ -98,7 +98,7 @@ module _ (i : ℕ) (rs : List Row) where
   pub carry-on-fits : All RowFits rs → All RowFits (lists .carryOn i rs)
   carry-on-fits f =
       all-change RowFits (withOttavaEnd false)
-      (λ r g. record { tuplet = g .tuplet; height = g .height; count = g .count; chord = g .chord }) rs i f
+      (λ r g. record { tuplet = g .tuplet; height = g .height; count = g .count; chord = g .chord; beat = g .beat }) rs i f
 
 -- ---- members
 

@@ -1,7 +1,7 @@
 -- What a reading hands on: where beats, headers and tracks end, the ranges of their texts and numbers.
 use Prim.Native.Nat.{ℕ, zero, suc, _+_, _*_, _-_, _≤_, _<_, min, max}
 use native.Mathlib.Omega.{arith}
-use mathlib.Core.Path.{_≡_, refl, _∙_}
+use mathlib.Core.Path.{_≡_, refl, sym, _∙_}
 use mathlib.Core.List.{List, [], _∷_, _++_}
 use mathlib.Core.Bool.{Bool, true, false, _||_}
 use lib.ListN.{length, getD, set, replicate, length-set}
@@ -21,7 +21,7 @@ use Rattle.format.specs.Fields.{u8, count}
 use Rattle.format.specs.Yields.{Yields, Bytes, Inside, OfFile}
 use Rattle.format.proofs.Yields.{yield-any, yield-ret, yield-refuse, yield-less, yield-bind, yield-after, yield-turns}
 use Rattle.format.proofs.Yields.{yielding, yield-le, yield-eq, yield-bits}
-use Rattle.format.proofs.Yields.{yield-u8, yield-byte, yield-skip, yield-number, yield-count}
+use Rattle.format.proofs.Yields.{yield-here, yield-u8, yield-byte, yield-skip, yield-number, yield-count}
 use Rattle.format.proofs.Yields.{yield-noText, yield-fixedString, yield-intByteStringUnused, yield-intByteString}
 use Rattle.model.specs.declared.Articulation.{Articulation}
 use Rattle.model.specs.declared.Tempo.the-variants.{NoTempo, Bpm}
@@ -77,6 +77,7 @@ pub record NotesFacts (strings at : ℕ) (ns : List NoteIs) (n : ℕ) : Type 0 w
   pub rooms : at + bendRooms strings 0 ns ≤ n
 
 pub record BeatFacts (s : List ℕ) (at : ℕ) (x : BeatIs) (n : ℕ) : Type 0 where
+  pub range : x .range ≡ record { start = at; end = n }
   pub starts : at + 1 ≤ n
   pub ends : n ≤ length s
   pub chord : OfFile s (x .chord)
@@ -298,6 +299,7 @@ head-starts = yield-bind _ yield-u8 (λ flags m _ h. yield-any (λ _ n w. omega 
 pub beat-facts : (s : List ℕ) (v at : ℕ) → Yields s (beat v) at (BeatFacts s at)
 unfolding beat beatBy beatNotes
 beat-facts s v at =
+    yield-bind _ yield-here (λ start m₀ _ first.
     yield-bind _ head-starts (λ h a b c.
     yield-bind _ (chord-facts v _) (λ name d e f.
     yield-bind _ (text-facts _) (λ words g i j.
@@ -306,14 +308,16 @@ beat-facts s v at =
     yield-after _ _ (λ strings q r.
     yield-bind _ (notes-facts v strings) (λ ns t u w.
     yield-after _ _ (λ ottava n x.
+    yield-bind _ yield-here (λ end m₁ y last.
     yield-ret (record {
+      range = λ i. record { start = first .0 i; end = (last .0 ∙ sym (last .1)) i };
       starts = omega arith;
-      ends = x .1;
+      ends = y .1;
       chord = f;
       text = j;
       tempo = p;
       notes = record { seven = w .seven; each = w .each; rooms = omega arith };
-    })))))))))
+    })))))))))))
 
 -- ---- a header's time, key and marker
 pub common-time : TimeFits H.commonTime

@@ -467,5 +467,5 @@ pub record AsTheOracle : Type 0 where
       0 ∷ 0 ∷ []
 
 pub as-the-oracle : AsTheOracle
-unfolding FormatText.blank FormatText.cutLen FormatText.leadLen FormatText.keepNext FormatText.keepLen FormatText.cut FormatText.trim FormatText.rangeOf FormatText.textOf FormatText.noText FormatCount.tooMany FormatCount.little FormatCount.asWord FormatSign.notNegative FormatProg.run FormatProg.bind FormatProg.turns FormatProg.whenLe FormatProg.whenEq FormatProg.has FormatProg.whenBits FormatFields.u8 FormatFields.number FormatFields.skip FormatFields.signByte FormatFields.textBytes FormatFields.lessOne FormatFields.count FormatFields.stringOf FormatFields.stringPast FormatFields.fixedString FormatFields.intByteStringUnused FormatFields.intByteStringUnusedPast FormatFields.intString FormatFields.intByteString FormatFields.intByteStringPast BinSigned.signed BinSigned.unsigned ModelKinds.endingPlaceOf ModelKinds.directionOf ModelKinds.clefOf ModelKinds.rowKindOf ModelKinds.durationOf ModelKinds.techniqueOf ModelKinds.techniqueTextOf ModelKinds.dynamicOf ModelKinds.articulationOf ModelKinds.arpeggioOf ModelKinds.noteHeadOf ModelKinds.ottavaOf ModelKinds.fingerOf ModelKinds.flagOf ModelKinds.keyOf ModelKinds.endingOf ModelKinds.passesOf ModelKinds.tempoOf ModelKinds.tempoFrom ModelKinds.programOf ModelKinds.tupletOf ModelKinds.positionOf ModelKinds.heightOf CurveHeld.held CurveSlide.slideOf CurveLevel.noteLevel CurveLevel.chordOf CurveLevel.chordLevel CurveLevel.levelAfter CurveKey.percussionKey CurveBend.heightOf CurveBend.pointOf CurveBend.finish CurveBend.larger CurveBend.curveHeight SongVersion.starts SongVersion.isFamily SongVersion.isDigit SongVersion.digitsLen SongVersion.digitsFrom SongVersion.short SongVersion.unplussed SongVersion.versionNumber SongVersion.versionOf SongVersion.accepted SongVersion.version SongInfo.names SongInfo.music SongInfo.composerOf SongInfo.credits SongInfo.notices SongInfo.noInfo SongInfo.info SongInfo.tripletFeel SongInfo.lyricTrack SongInfo.lyricLine SongInfo.fiveLines SongInfo.lyrics SongSetup.equalizer SongSetup.templates SongSetup.page SongSetup.hideTempo SongSetup.octave SongSetup.tempo SongSetup.setup SongSetup.programOf SongSetup.channel SongSetup.noPort SongSetup.nextChannel SongSetup.port SongSetup.noPorts SongSetup.nextPort SongSetup.channelTable SongSetup.barNumber SongSetup.noDirections SongSetup.nextDirection SongSetup.nineteen SongSetup.directions HeaderHeader.notEmpty HeaderHeader.noCounts HeaderHeader.counts HeaderHeader.commonTime HeaderHeader.powerOfTwo HeaderHeader.timeOf HeaderHeader.time HeaderHeader.repeatCount HeaderHeader.endingByte HeaderHeader.marker HeaderHeader.fifthsOf HeaderHeader.modeOf HeaderHeader.key HeaderHeader.headerMarks HeaderHeader.beams HeaderHeader.headerTail HeaderHeader.endingOf HeaderHeader.passesOf HeaderHeader.endingNumber HeaderHeader.noHeader HeaderHeader.headerOf HeaderHeader.header TrackTrack.noTunings TrackTrack.nextTuning TrackTrack.tunings TrackTrack.noStrings TrackTrack.strings TrackTrack.numbered TrackTrack.sound TrackTrack.effect TrackTrack.staff TrackTrack.tablatureOf TrackTrack.low TrackTrack.clefOf TrackTrack.channelProgram TrackTrack.noTrack TrackTrack.trackOf TrackTrack.track NoteOptional.optional NoteOptional.moreFlags NotePoints.bendPoint NotePoints.bendPoints NotePoints.bend NotePoints.whammy NotePoints.word NotePoints.pointsAt NoteMarks.noteBend NoteMarks.graceOf NoteMarks.graceFlags NoteMarks.graceNote NoteMarks.grace NoteMarks.tremolo NoteMarks.slideFlag NoteMarks.slide NoteMarks.harmonicEnd NoteMarks.noHarmonic NoteMarks.harmonic NoteMarks.trill NoteMarks.noMarks NoteMarks.marksOf NoteMarks.marks NoteMarks.noNoteEffects NoteMarks.noteEffects NoteNote.frettedByte NoteNote.ownDuration NoteNote.dynamic NoteNote.leftHand NoteNote.noHands NoteNote.hands NoteNote.percent NoteNote.accidental NoteNote.readOf NoteNote.noteEnd NoteNote.noteBy NoteNote.note NoteNote.noNote NoteNotes.stringBit NoteNotes.noNotes NoteNotes.notes BeatHead.tupletOf BeatHead.status BeatHead.tuplet BeatHead.headOf BeatHead.noHead BeatHead.head BeatChord.diagram BeatChord.oldFrets BeatChord.oldChord BeatChord.earlyChord BeatChord.chord BeatChord.chordName BeatChord.beatText BeatEffects.tappingOf BeatEffects.noTapping BeatEffects.tappingEnd BeatEffects.tapping BeatEffects.tremoloBar BeatEffects.brushOf BeatEffects.brush BeatEffects.strokeOf BeatEffects.stroke BeatEffects.noEffects BeatEffects.effectsOf BeatEffects.effectsBy BeatEffects.beatEffects BeatMix.threeSigns BeatMix.mixSound BeatMix.tempoName BeatMix.duration BeatMix.threeDurations BeatMix.tempoEnd BeatMix.mixFlags BeatMix.wah BeatMix.mixStrings BeatMix.noMix BeatMix.mixEnd BeatMix.anyGiven BeatMix.mixTempo BeatMix.mixTable BeatMix.mix BeatTail.ottavaOf BeatTail.tailByte BeatTail.tail BeatBeat.beatNotes BeatBeat.beatBy BeatBeat.beat BeatBeat.noBeat ScoreFile.opening ScoreFile.voices ScoreFile.oneHeader ScoreFile.headers ScoreFile.oneTrack ScoreFile.tracks ScoreFile.oneBeat ScoreFile.voice ScoreFile.barTrack ScoreFile.bar ScoreFile.bars ScoreFile.score ScoreFile.file ScoreSounding.sounding ScoreMembers.inOrder ScoreMembers.memberOf ScoreMembers.graceMember ScoreRows.noteMarks ScoreRows.beatMarks ScoreRows.rowArticulations ScoreRows.playedWith ScoreRows.restRow ScoreRows.chordRow ScoreRows.graceRow ScoreRows.rowsOf ScoreBars.several ScoreBars.directionAt ScoreBars.keyChanged ScoreBars.timeChanged ScoreBars.barOf ScoreBars.noBar ScoreLosses.headerLosses ScoreLosses.trackLosses ScoreLosses.readingLosses ScoreLosses.buildingLosses ScorePage.rowEntry ScorePage.trackEntry ScorePage.addHeader ScorePage.addTrack ScorePage.keepRow ScorePage.enterBar ScorePage.addBeat ScorePage.noBars ScorePage.noTracks ScorePage.noBeats ScoreScore.scored Count.ones Count.onesIn Count.trailingZeros
+unfolding FormatText.blank FormatText.cutLen FormatText.leadLen FormatText.keepNext FormatText.keepLen FormatText.cut FormatText.trim FormatText.rangeOf FormatText.textOf FormatText.noText FormatCount.tooMany FormatCount.little FormatCount.asWord FormatSign.notNegative FormatProg.run FormatProg.bind FormatProg.turns FormatProg.whenLe FormatProg.whenEq FormatProg.has FormatProg.whenBits FormatFields.u8 FormatFields.number FormatFields.skip FormatFields.signByte FormatFields.textBytes FormatFields.lessOne FormatFields.count FormatFields.here FormatFields.stringOf FormatFields.stringPast FormatFields.fixedString FormatFields.intByteStringUnused FormatFields.intByteStringUnusedPast FormatFields.intString FormatFields.intByteString FormatFields.intByteStringPast BinSigned.signed BinSigned.unsigned ModelKinds.endingPlaceOf ModelKinds.directionOf ModelKinds.clefOf ModelKinds.rowKindOf ModelKinds.durationOf ModelKinds.techniqueOf ModelKinds.techniqueTextOf ModelKinds.dynamicOf ModelKinds.articulationOf ModelKinds.arpeggioOf ModelKinds.noteHeadOf ModelKinds.ottavaOf ModelKinds.fingerOf ModelKinds.flagOf ModelKinds.keyOf ModelKinds.endingOf ModelKinds.passesOf ModelKinds.tempoOf ModelKinds.tempoFrom ModelKinds.programOf ModelKinds.tupletOf ModelKinds.positionOf ModelKinds.heightOf CurveHeld.held CurveSlide.slideOf CurveLevel.noteLevel CurveLevel.chordOf CurveLevel.chordLevel CurveLevel.levelAfter CurveKey.percussionKey CurveBend.heightOf CurveBend.pointOf CurveBend.finish CurveBend.larger CurveBend.curveHeight SongVersion.starts SongVersion.isFamily SongVersion.isDigit SongVersion.digitsLen SongVersion.digitsFrom SongVersion.short SongVersion.unplussed SongVersion.versionNumber SongVersion.versionOf SongVersion.accepted SongVersion.version SongInfo.names SongInfo.music SongInfo.composerOf SongInfo.credits SongInfo.notices SongInfo.noInfo SongInfo.info SongInfo.tripletFeel SongInfo.lyricTrack SongInfo.lyricLine SongInfo.fiveLines SongInfo.lyrics SongSetup.equalizer SongSetup.templates SongSetup.page SongSetup.hideTempo SongSetup.octave SongSetup.tempo SongSetup.setup SongSetup.programOf SongSetup.channel SongSetup.noPort SongSetup.nextChannel SongSetup.port SongSetup.noPorts SongSetup.nextPort SongSetup.channelTable SongSetup.barNumber SongSetup.noDirections SongSetup.nextDirection SongSetup.nineteen SongSetup.directions HeaderHeader.notEmpty HeaderHeader.noCounts HeaderHeader.counts HeaderHeader.commonTime HeaderHeader.powerOfTwo HeaderHeader.timeOf HeaderHeader.time HeaderHeader.repeatCount HeaderHeader.endingByte HeaderHeader.marker HeaderHeader.fifthsOf HeaderHeader.modeOf HeaderHeader.key HeaderHeader.headerMarks HeaderHeader.beams HeaderHeader.headerTail HeaderHeader.endingOf HeaderHeader.passesOf HeaderHeader.endingNumber HeaderHeader.noHeader HeaderHeader.headerOf HeaderHeader.header TrackTrack.noTunings TrackTrack.nextTuning TrackTrack.tunings TrackTrack.noStrings TrackTrack.strings TrackTrack.numbered TrackTrack.sound TrackTrack.effect TrackTrack.staff TrackTrack.tablatureOf TrackTrack.low TrackTrack.clefOf TrackTrack.channelProgram TrackTrack.noTrack TrackTrack.trackOf TrackTrack.track NoteOptional.optional NoteOptional.moreFlags NotePoints.bendPoint NotePoints.bendPoints NotePoints.bend NotePoints.whammy NotePoints.word NotePoints.pointsAt NoteMarks.noteBend NoteMarks.graceOf NoteMarks.graceFlags NoteMarks.graceNote NoteMarks.grace NoteMarks.tremolo NoteMarks.slideFlag NoteMarks.slide NoteMarks.harmonicEnd NoteMarks.noHarmonic NoteMarks.harmonic NoteMarks.trill NoteMarks.noMarks NoteMarks.marksOf NoteMarks.marks NoteMarks.noNoteEffects NoteMarks.noteEffects NoteNote.frettedByte NoteNote.ownDuration NoteNote.dynamic NoteNote.leftHand NoteNote.noHands NoteNote.hands NoteNote.percent NoteNote.accidental NoteNote.readOf NoteNote.noteEnd NoteNote.noteBy NoteNote.note NoteNote.noNote NoteNotes.stringBit NoteNotes.noNotes NoteNotes.notes BeatHead.tupletOf BeatHead.status BeatHead.tuplet BeatHead.headOf BeatHead.noHead BeatHead.head BeatChord.diagram BeatChord.oldFrets BeatChord.oldChord BeatChord.earlyChord BeatChord.chord BeatChord.chordName BeatChord.beatText BeatEffects.tappingOf BeatEffects.noTapping BeatEffects.tappingEnd BeatEffects.tapping BeatEffects.tremoloBar BeatEffects.brushOf BeatEffects.brush BeatEffects.strokeOf BeatEffects.stroke BeatEffects.noEffects BeatEffects.effectsOf BeatEffects.effectsBy BeatEffects.beatEffects BeatMix.threeSigns BeatMix.mixSound BeatMix.tempoName BeatMix.duration BeatMix.threeDurations BeatMix.tempoEnd BeatMix.mixFlags BeatMix.wah BeatMix.mixStrings BeatMix.noMix BeatMix.mixEnd BeatMix.anyGiven BeatMix.mixTempo BeatMix.mixTable BeatMix.mix BeatTail.ottavaOf BeatTail.tailByte BeatTail.tail BeatBeat.beatNotes BeatBeat.beatBy BeatBeat.beat BeatBeat.noBeat ScoreFile.opening ScoreFile.voices ScoreFile.oneHeader ScoreFile.headers ScoreFile.oneTrack ScoreFile.tracks ScoreFile.oneBeat ScoreFile.voice ScoreFile.barTrack ScoreFile.bar ScoreFile.bars ScoreFile.score ScoreFile.file ScoreSounding.sounding ScoreMembers.inOrder ScoreMembers.memberOf ScoreMembers.graceMember ScoreRows.noteMarks ScoreRows.beatMarks ScoreRows.rowArticulations ScoreRows.playedWith ScoreRows.restRow ScoreRows.chordRow ScoreRows.graceRow ScoreRows.rowsOf ScoreBars.several ScoreBars.directionAt ScoreBars.keyChanged ScoreBars.timeChanged ScoreBars.barOf ScoreBars.noBar ScoreLosses.headerLosses ScoreLosses.trackLosses ScoreLosses.readingLosses ScoreLosses.buildingLosses ScorePage.rowEntry ScorePage.trackEntry ScorePage.addHeader ScorePage.addTrack ScorePage.keepRow ScorePage.enterBar ScorePage.addBeat ScorePage.noBars ScorePage.noTracks ScorePage.noBeats ScoreScore.scored Count.ones Count.onesIn Count.trailingZeros
 as-the-oracle = record { of221 = refl; of218 = refl; of196 = refl; of223 = refl; of64 = refl; of410 = refl }

@@ -161,6 +161,7 @@ rowEntry r marks kept =
       ottava = marks;
       chord = r .chord;
       finger = plainFinger (r .members);
+      beat = r .beat;
     }
 
 -- ---- what a row does to the rows of its voice before it

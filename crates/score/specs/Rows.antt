@@ -62,6 +62,7 @@ pub record RowIs : Type 0 where
   pub head : NoteHead
   pub ottava : Ottava
   pub chord : Range
+  pub beat : Range
 
 abbrev pub noteOf : Keyed → NoteRead
 noteOf x = x .sound .note .read
@@ -203,6 +204,7 @@ restRow place b =
       head = Normal;
       ottava = b .ottava;
       chord = b .chord .range;
+      beat = b .range;
     }
 
 unfoldable pub chordRow : RowPlace → Fretboard → Bool → ℕ → BeatIs → List Keyed → RowIs
@@ -223,10 +225,11 @@ chordRow place board flat running b xs =
       head = rowHead xs;
       ottava = b .ottava;
       chord = b .chord .range;
+      beat = b .range;
     }
 
 -- ---- a grace row: a 32nd, no dot, no tuplet, no ghost, tie, finger or dynamic. The last transition 1 or 3 sets the technique,
--- but any 3 leaves the mark
+-- but any 3 leaves the mark. It has the bytes of its beat (document 02, f)
 abbrev pub graceTechnique : Technique → List Graced → Technique
 graceTechnique t [] = t
 graceTechnique t (g ∷ gs) =
@@ -240,8 +243,8 @@ abbrev pub graceHead : List Graced → NoteHead
 graceHead [] = Normal
 graceHead (g ∷ gs) = pick (g .grace .dead) Cross (graceHead gs)
 
-unfoldable pub graceRow : RowPlace → Fretboard → Bool → List Graced → RowIs
-graceRow place board flat gs =
+unfoldable pub graceRow : RowPlace → Fretboard → Bool → Range → List Graced → RowIs
+graceRow place board flat beat gs =
     record {
       place = place;
       kind = K.Grace;
@@ -257,12 +260,13 @@ graceRow place board flat gs =
       head = graceHead gs;
       ottava = NoOttava;
       chord = record { start = 0; end = 0 };
+      beat = beat;
     }
 
 -- a grace row stands directly before its beat's row
-abbrev pub graceRows : RowPlace → Fretboard → Bool → List Graced → List RowIs
-graceRows place board flat [] = []
-graceRows place board flat (g ∷ gs) = graceRow place board flat (g ∷ gs) ∷ []
+abbrev pub graceRows : RowPlace → Fretboard → Bool → Range → List Graced → List RowIs
+graceRows place board flat beat [] = []
+graceRows place board flat beat (g ∷ gs) = graceRow place board flat beat (g ∷ gs) ∷ []
 
 abbrev pub beatRow : RowPlace → Fretboard → Bool → ℕ → BeatIs → List Keyed → RowIs
 beatRow place board flat running b [] = restRow place b
@@ -270,4 +274,4 @@ beatRow place board flat running b (x ∷ xs) = chordRow place board flat runnin
 
 unfoldable pub rowsOf : RowPlace → Fretboard → Bool → ℕ → BeatIs → List Keyed → List RowIs
 rowsOf place board flat running b xs =
-    graceRows place board flat (graces xs) ++ (beatRow place board flat running b xs ∷ [])
+    graceRows place board flat (b .range) (graces xs) ++ (beatRow place board flat running b xs ∷ [])

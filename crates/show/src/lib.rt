@@ -270,7 +270,8 @@ fn song_tables(
           duration=?5{whole|half|quarter|8th|16th|32nd|64th} dot=#6 tuplet=!7{none|#7:#8} members=#9,#a \
           technique=?c{none|bend|hammer|pull|slide} text=?b{none|palmmute|letring} curve=#d,#e \
           height=!f{none|~g} dynamic=!h{none|#h} articulations=!i{none|^i} arpeggio=?l{none|up|down} \
-          head=?m{normal|x} ottavastart=?n{none|8va|8vb|15ma|15mb} ottavaend=#o chord=#p,#q finger=?r{none|0|1|2|3|4}\n",
+          head=?m{normal|x} ottavastart=?n{none|8va|8vb|15ma|15mb} ottavaend=#o chord=#p,#q finger=?r{none|0|1|2|3|4} \
+          beat=#s,#t\n",
         Table::Rows,
         rows,
         counts.rows,

@@ -155,6 +155,10 @@ fn a_row() -> Row {
         start: 1200,
         end: 1203,
     };
+    let beat = Range {
+        start: 1180,
+        end: 1240,
+    };
     Row {
         place,
         kind: RowKind::Beat,
@@ -166,6 +170,7 @@ fn a_row() -> Row {
         ottava,
         chord,
         finger: Finger::NoFinger,
+        beat,
     }
 }
 
@@ -206,19 +211,19 @@ fn a_text() -> Text {
 
 // The entries stand one after another, as the page has them.
 fn store_bars_tracks_rows(words: &mut [u32])
-    requires { ⌜ 74 ≤ length (now words) ⌝ }
+    requires { ⌜ 76 ≤ length (now words) ⌝ }
 {
     entries::bars::store_bar(&mut words[0..16], 0, a_bar());
     entries::tracks::store_track(&mut words[16..32], 0, a_track());
-    entries::rows::store_row(&mut words[32..60], 0, a_row());
+    entries::rows::store_row(&mut words[32..62], 0, a_row());
 }
 
 fn store_members_points_texts(words: &mut [u32])
-    requires { ⌜ 74 ≤ length (now words) ⌝ }
+    requires { ⌜ 76 ≤ length (now words) ⌝ }
 {
-    entries::members::store_member(&mut words[60..68], 0, a_member());
-    entries::points::store_point(&mut words[68..70], 0, a_point());
-    entries::texts::store_text(&mut words[70..74], 0, a_text());
+    entries::members::store_member(&mut words[62..70], 0, a_member());
+    entries::points::store_point(&mut words[70..72], 0, a_point());
+    entries::texts::store_text(&mut words[72..76], 0, a_text());
 }
 
 // A byte of the text, or the word in its place; gives the number of the next word.
@@ -241,7 +246,7 @@ fn write_filled(text: &[u8], words: &[u32]) {
 }
 
 fn main() {
-    let mut words = [0u32; 74];
+    let mut words = [0u32; 76];
     store_bars_tracks_rows(&mut words);
     store_members_points_texts(&mut words);
     let mut text = io::large_buffer();

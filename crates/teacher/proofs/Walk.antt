@@ -8,6 +8,7 @@ use mathlib.Core.List.{List, [], _∷_, _++_, map, map-append, reverse, reverseA
 use borrow.Author.Tests.{eqb-true, eqb-false, eq-eqb}
 use lib.Dec.{eqb}
 use lib.ListN.{length, getD}
+use Rattle.format.specs.declared.Range.{Range}
 use Rattle.format.specs.Text.{pick}
 use Rattle.tables.specs.Table.{change}
 use Rattle.model.specs.declared.RowPlace.{RowPlace}
@@ -71,10 +72,10 @@ module _ (place : RowPlace) (board : Fretboard) (flat : Bool) where
   unfolding graceMember
   grace-is g = refl
 
-  graces-seen : (gs : List Graced) → map seenIs (graceRows place board flat gs) ≡ gracesSeen place board gs
+  graces-seen : (beat : Range) (gs : List Graced) → map seenIs (graceRows place board flat beat gs) ≡ gracesSeen place board gs
   unfolding graceRow
-  graces-seen [] = refl
-  graces-seen (g ∷ gs) = rw (grace-is g, map-twice seen (graceMember board flat) (seenGrace board) grace-is gs)
+  graces-seen beat [] = refl
+  graces-seen beat (g ∷ gs) = rw (grace-is g, map-twice seen (graceMember board flat) (seenGrace board) grace-is gs)
 
   chord-seen : (running : ℕ) (b : BeatIs) (xs : List Keyed)
       → seenIs (beatRow place board flat running b xs) ≡ chordSeen place board xs
@@ -86,8 +87,8 @@ module _ (place : RowPlace) (board : Fretboard) (flat : Bool) where
       → map seenIs (rowsOf place board flat running b xs) ≡ rowsSeen place board xs
   unfolding rowsOf
   rows-seen running b xs =
-      map-append seenIs (graceRows place board flat (graces xs)) (beatRow place board flat running b xs ∷ [])
-      ∙ rw (graces-seen (graces xs), chord-seen running b xs)
+      map-append seenIs (graceRows place board flat (b .range) (graces xs)) (beatRow place board flat running b xs ∷ [])
+      ∙ rw (graces-seen (b .range) (graces xs), chord-seen running b xs)
 
 -- ---- the page that the events make, the latest first
 abbrev pub placeOf : BeatTold → RowPlace

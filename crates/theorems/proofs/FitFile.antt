@@ -151,9 +151,9 @@ head-tuplet =
 beat-tuplet : (s : List ℕ) (v at : ℕ) → Yields s (beat v) at (λ x _. TupletFits (x .head .tuplet))
 unfolding beat beatBy beatNotes
 beat-tuplet s v at =
-    yield-bind _ head-tuplet (λ h _ _ f. yield-after _ _ (λ _ _ _. yield-after _ _ (λ _ _ _. yield-after _ _ (λ _ _ _.
-    yield-after _ _ (λ _ _ _. yield-after _ _ (λ _ _ _. yield-after _ _ (λ _ _ _. yield-after _ _ (λ _ _ _.
-    yield-ret f))))))))
+    yield-after _ _ (λ _ _ _. yield-bind _ head-tuplet (λ h _ _ f. yield-after _ _ (λ _ _ _. yield-after _ _ (λ _ _ _.
+    yield-after _ _ (λ _ _ _. yield-after _ _ (λ _ _ _. yield-after _ _ (λ _ _ _. yield-after _ _ (λ _ _ _. yield-after _ _ (λ _ _ _.
+    yield-after _ _ (λ _ _ _. yield-ret f))))))))))
 
 -- ---- the file, step by step
 

@@ -42,6 +42,7 @@ pub record RowHeld (r : RowIs) : Type 0 where
   pub curve : All PointFits (r .curve)
   pub count : r .articulations .count < 256
   pub chord : RangeFits (r .chord)
+  pub beat : RangeFits (r .beat)
 
 -- ---- members
 
@@ -89,10 +90,10 @@ module _ (board : Fretboard) (fits : BoardFits board) (flat : Bool) (room : ℕ)
   -- ---- rows
 
   module _ (place : RowPlace) (running : ℕ) (b : BeatIs) (tuplet : TupletFits (b .head .tuplet))
-      (chord : RangeFits (b .chord .range)) where
+      (chord : RangeFits (b .chord .range)) (range : RangeFits (b .range)) where
     beat-row-held : (xs : List Keyed) → All (KeyedFits board room) xs → RowHeld (beatRow place board flat running b xs)
     unfolding restRow chordRow
-    beat-row-held [] q = record { tuplet = tuplet; members = tt; curve = tt; count = omega arith; chord = chord }
+    beat-row-held [] q = record { tuplet = tuplet; members = tt; curve = tt; count = omega arith; chord = chord; beat = range }
     beat-row-held (x ∷ xs) q =
         record {
           tuplet = tuplet;
@@ -100,9 +101,10 @@ module _ (board : Fretboard) (fits : BoardFits board) (flat : Bool) (room : ℕ)
           curve = curve-fits (played noPlay (x ∷ xs) .bend);
           count = marks-few (b .effects) (x ∷ xs);
           chord = chord;
+          beat = range;
         }
 
-    grace-rows-held : (gs : List Graced) → All GracedFits gs → All RowHeld (graceRows place board flat gs)
+    grace-rows-held : (gs : List Graced) → All GracedFits gs → All RowHeld (graceRows place board flat (b .range) gs)
     unfolding graceRow
     grace-rows-held [] q = tt
     grace-rows-held (g ∷ gs) q = (
@@ -112,6 +114,7 @@ module _ (board : Fretboard) (fits : BoardFits board) (flat : Bool) (room : ℕ)
         curve = tt;
         count = omega arith;
         chord = record { start = omega arith; end = omega arith };
+        beat = range;
       },
       tt,
     )
@@ -120,7 +123,7 @@ module _ (board : Fretboard) (fits : BoardFits board) (flat : Bool) (room : ℕ)
         → All RowHeld (rowsOf place board flat running b xs)
     unfolding rowsOf
     rows-held xs q =
-        all-more RowHeld (graceRows place board flat (graces xs)) (beatRow place board flat running b xs)
+        all-more RowHeld (graceRows place board flat (b .range) (graces xs)) (beatRow place board flat running b xs)
         (grace-rows-held (graces xs) (graces-fit xs q)) (beat-row-held xs q)
 
 -- ---- a row among those that are kept
@@ -134,7 +137,7 @@ pub record EntriesFit (w : Rowing Lists) : Type 0 where
 entry-fits : (r : RowIs) (marks : OttavaMarks) (kept : KeptCounts) → RowHeld r → RowFits (rowEntry r marks kept)
 unfolding rowEntry
 entry-fits r marks kept f =
-    record { tuplet = f .tuplet; height = height-fits (r .curve) (f .curve); count = f .count; chord = f .chord }
+    record { tuplet = f .tuplet; height = height-fits (r .curve) (f .curve); count = f .count; chord = f .chord; beat = f .beat }
 
 hammer-keeps : (h : Hammer) (r : RowIs) (rs : List Row) → All RowFits rs → All RowFits (turnHammer lists h r rs)
 hammer-keeps NoHammer r rs f = f

@@ -149,12 +149,15 @@ module _ (s : List ℕ) (small : length s ≤ LIMIT) (bar track voice at n : ℕ
         };
       }
 
+  stands : RangeFits (x .range)
+  stands = rw (f .range) (range-fits s _ small (record { sorted = omega (arith, f .starts); ends = f .ends }))
+
   kept-fits : EntriesFit after
   kept-fits =
       pick-both EntriesFit (x .head .kept) (keepRows lists rs before) before
       (keep-rows-fit rs before
       (rows-held board (part-fits .board) (w .tally .flat) room _ (part .running) x tuplet
-      (range-fits s (x .chord .range) small (f .chord .inside)) xs chord-fits)
+      (range-fits s (x .chord .range) small (f .chord .inside)) stands xs chord-fits)
       before-fits)
       before-fits
 

@@ -158,7 +158,8 @@ module _ {d : List ℕ} {x : Score} {n : ℕ} (b : Beginning d x n) where
     altered-alike same = p .is ∙ same-reading b (alike-begins b e same) t ∙ sym (o .is)
 
 -- "Into tables of the same sizes and contents the altered file gives the same n, rows, ranges and loss counts, and all
--- else in the answer and the tables alike."
+-- else in the answer and the tables alike." A row's words have the start and end of its beat among them, so the same rows
+-- have the same bytes of the file (document 02, f; what these are: the crate ranges)
 pub altered-is-read-alike : {d e : List ℕ} {t : Tables} {r q : Result} → Promise d t r → Promise e t q → outcomeIn r ≡ 0
     → used r ≤ length e → ((i : ℕ) → i < used r → Kept scored d 0 i → getD d i 0 ≡ getD e i 0)
     → ((i : ℕ) → i < used r → Signed scored d 0 i → notNegative (getD d i 0) ≡ notNegative (getD e i 0)) → q ≡ r

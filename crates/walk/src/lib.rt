@@ -1,5 +1,6 @@
 // The walk over bars, tracks, voices and beats.
 use beat::hop::BeatHop;
+use beat::places::BEAT_WORDS;
 use beat::places::Beat;
 use bin::Number;
 use draft::chord::Chord;
@@ -743,7 +744,7 @@ pub fn all_bars(
 {
     let held = tracks_with_words(tracks, parts);
     let mut lost = tally.losses;
-    let mut b = [0usize; 19];
+    let mut b = [0usize; BEAT_WORDS];
     let mut notes = [0usize; 144];
     let mut chord = [0u32; 7];
     let walked = every_bar(

@@ -5,6 +5,8 @@
 mod handed;
 mod text;
 
+use std::ops::Range;
+
 pub use handed::{Handed, HandedTrack, Rooms};
 pub use text::Text;
 
@@ -221,6 +223,8 @@ pub struct Note {
     pub ottava_start: Option<OttavaKind>,
     pub ottava_end: bool,
     pub chord_symbol: Option<ChordSymbol>,
+    /// Where its beat stands in the input.
+    pub beat: Range<usize>,
 }
 
 impl Note {
@@ -252,6 +256,7 @@ impl Note {
             ottava_start: None,
             ottava_end: false,
             chord_symbol: None,
+            beat: 0..0,
         }
     }
 

@@ -175,7 +175,7 @@ fn put_row(out: &mut String, place: usize, row: &Row) {
     let marks: Vec<String> = note.articulations.iter().map(articulation).collect();
     line!(
         out,
-        "row {place} bar={} track={} voice={} kind={} rest={} duration={} dot={} tuplet={} members={} technique={} text={} curve={} height={} dynamic={} articulations={} arpeggio={} head={} ottavastart={} ottavaend={} chord={} finger={}",
+        "row {place} bar={} track={} voice={} kind={} rest={} duration={} dot={} tuplet={} members={} technique={} text={} curve={} height={} dynamic={} articulations={} arpeggio={} head={} ottavastart={} ottavaend={} chord={} finger={} beat={},{}",
         row.bar,
         row.track,
         row.voice,
@@ -209,6 +209,8 @@ fn put_row(out: &mut String, place: usize, row: &Row) {
             .as_ref()
             .map_or("0,0".to_string(), |chord| range(&chord.name)),
         or_none(note.fingering.filter(|_| note.pitches.len() == 1)),
+        note.beat.start,
+        note.beat.end,
     );
 }
 

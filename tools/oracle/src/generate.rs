@@ -415,21 +415,32 @@ impl Maker<'_> {
             (Field::Tuplet, 0x20),
             (Field::Status, 0x40),
         ];
+        let start = self.out.bytes.len();
         let flags = self.flags(&fields);
+        let kept = self.beat_status(flags);
         self.beat_time(flags);
         self.beat_fields(flags);
-        self.notes(strings);
+        let has_grace = self.notes(strings);
         if self.v(500) {
             self.beat_end();
         }
+        if kept {
+            self.out.end_beat(start, has_grace);
+        }
+    }
+
+    /// Whether the beat is kept.
+    fn beat_status(&mut self, flags: u8) -> bool {
+        if flags & 0x40 == 0 {
+            return true;
+        }
+        let kept = !self.chance(Field::Unkept);
+        let status = self.unnamed(!0x02) | if kept { 0x02 } else { 0 };
+        self.out.u8(status);
+        kept
     }
 
     fn beat_time(&mut self, flags: u8) {
-        if flags & 0x40 != 0 {
-            let kept = if self.chance(Field::Unkept) { 0 } else { 0x02 };
-            let status = kept | self.unnamed(!0x02);
-            self.out.u8(status);
-        }
         let duration = self.byte_of(&[-2, -1, 0, 1, 2, 3, 4, 5, -3]);
         self.out.u8(duration);
         if flags & 0x20 != 0 {
@@ -609,7 +620,8 @@ impl Maker<'_> {
 
     // Notes.
 
-    fn notes(&mut self, strings: usize) {
+    /// Whether there is a grace on a string that the track has.
+    fn notes(&mut self, strings: usize) -> bool {
         let mut bits = self.unnamed(0x80);
         for string in 0..7 {
             let field = if string < strings {
@@ -620,12 +632,15 @@ impl Maker<'_> {
             bits |= self.flag(field, 0x40 >> string);
         }
         self.out.u8(bits);
-        for _ in 0..(bits & 0x7f).count_ones() {
-            self.note();
+        let mut has_grace = false;
+        for string in (0..7).filter(|string| bits & 0x40 >> string != 0) {
+            has_grace |= self.note() && string < strings;
         }
+        has_grace
     }
 
-    fn note(&mut self) {
+    /// Whether the note has a grace.
+    fn note(&mut self) -> bool {
         let fields = [
             (Field::Independent, 0x01),
             (Field::HeavyAccent, 0x02),
@@ -654,9 +669,7 @@ impl Maker<'_> {
             let accidental = self.byte_of(&[0, 0, 2]);
             self.out.u8(accidental);
         }
-        if flags & 0x08 != 0 {
-            self.note_effects();
-        }
+        flags & 0x08 != 0 && self.note_effects()
     }
 
     fn note_values(&mut self, flags: u8) {
@@ -677,7 +690,8 @@ impl Maker<'_> {
         }
     }
 
-    fn note_effects(&mut self) {
+    /// Whether a grace is among them.
+    fn note_effects(&mut self) -> bool {
         let fields = [
             (Field::Bend, 0x01),
             (Field::Hammer, 0x02),
@@ -706,6 +720,7 @@ impl Maker<'_> {
             self.grace();
         }
         self.later_effects(flags2);
+        flags & 0x10 != 0
     }
 
     fn bend(&mut self) {

@@ -68,15 +68,18 @@ impl Trial {
         self.findings.push(format!("{name}: {words}"));
     }
 
-    /// A valid file is read, and to its last byte.
+    /// A valid file is read, and to its last byte; each row's beat is where it was written.
     fn valid(&mut self, name: &str, made: &Made) {
-        match self.both(name, &made.bytes) {
-            Verdict::Read(answer) if answer.score.handed.used == made.used => {}
-            Verdict::Read(answer) => {
-                let words = format!("used {}, not {}", answer.score.handed.used, made.used);
-                self.find(name, &words);
-            }
-            _ => self.find(name, "not read"),
+        let Verdict::Read(answer) = self.both(name, &made.bytes) else {
+            return self.find(name, "not read");
+        };
+        let used = answer.score.handed.used;
+        if used != made.used {
+            self.find(name, &format!("used {used}, not {}", made.used));
+        }
+        let rows = answer.rows();
+        if !rows.iter().map(|row| &row.note.beat).eq(&made.rows) {
+            self.find(name, "the rows' beats are not where they were written");
         }
     }
 

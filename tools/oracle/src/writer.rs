@@ -1,6 +1,7 @@
 //! Bytes of a file with what is known of them: which are passed over, of which the sign alone
-//! counts, where its counts and text sizes stand.
+//! counts, where its counts, text sizes and the beats of its rows stand.
 
+use std::iter::repeat_n;
 use std::ops::Range;
 
 /// Document 01's six counts, by their numbers.
@@ -42,6 +43,8 @@ pub struct Made {
     /// Where values of mix tables stand, of which the sign alone counts (document 02, n).
     pub signs: Vec<usize>,
     pub counts: Vec<(usize, Count)>,
+    /// Of each row, in order, where its beat stands (document 02, f).
+    pub rows: Vec<Range<usize>>,
     /// Where the four bytes of a text's size stand.
     pub sizes: Vec<usize>,
     /// Where ports, channels, lyric track and lyric starts stand.
@@ -109,6 +112,12 @@ impl Made {
     pub fn sign(&mut self, value: u8) {
         self.signs.push(self.bytes.len());
         self.u8(value);
+    }
+
+    /// A kept beat ends: it is one row, and one more before it where it has a grace.
+    pub fn end_beat(&mut self, start: usize, has_grace: bool) {
+        let beat = start..self.bytes.len();
+        self.rows.extend(repeat_n(beat, 1 + usize::from(has_grace)));
     }
 
     /// Where the counts of a kind stand, in order.

@@ -18,16 +18,18 @@ chord-row-spec =
     (λ c κs. search needs)
     (λ c κs. search needs)
     (λ c κs. search needs)
+    (λ c κs. search needs)
     (λ c s board flat.
-    let o = c .before .before .before .before .before .before in
+    let o = c .before .before .before .before .before .before .before in
     let a = o .before .before .before .before .before .before .args in
     let v = o .before .before .before .before .voicing-of .ensures in
     rw (
       c .before .value-of .ensures s (a .v) (a .notes .now),
-      c .before .before .chord .ensures,
-      c .before .before .before .ottava .ensures,
-      c .before .before .before .before .head-of .ensures s (a .v),
-      c .before .before .before .before .before .brush .ensures,
+      c .before .before .range .ensures,
+      c .before .before .before .chord .ensures,
+      c .before .before .before .before .ottava .ensures,
+      c .before .before .before .before .before .head-of .ensures s (a .v),
+      c .before .before .before .before .before .before .brush .ensures,
       o .before .level-of .ensures s (a .v),
       c .listed .ensures,
       v .1 s,

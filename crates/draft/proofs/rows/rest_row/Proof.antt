@@ -14,4 +14,10 @@ rest-row-spec =
     (λ c κs. search needs)
     (λ c κs. search needs)
     (λ c κs. search needs)
-    (λ c s v w. rw (c .value-of .ensures s v w, c .before .chord .ensures, c .before .before .ottava .ensures)))
+    (λ c κs. search needs)
+    (λ c s v w. rw (
+      c .value-of .ensures s v w,
+      c .before .range .ensures,
+      c .before .before .chord .ensures,
+      c .before .before .before .ottava .ensures,
+    )))

@@ -20,4 +20,6 @@ back-words-spec =
     (λ c κs. search needs)
     (λ c κs. search needs)
     (λ c κs. search needs)
-    (λ c. rw (c .finger-word .ensures, c .before .low2 .ensures, c .before .before .low .ensures, c .before .before .before .flag-word .ensures, c .before .before .before .before .ottava-word .ensures, c .before .before .before .before .before .note-head-word .ensures, c .before .before .before .before .before .before .arpeggio-word .ensures, c .before .before .before .before .before .before .before .before .before .byte-word .ensures, c .before .before .before .before .before .before .before .before .before .before .dynamic-word .ensures)))
+    (λ c κs. search needs)
+    (λ c κs. search needs)
+    (λ c. rw (c .low4 .ensures, c .before .low3 .ensures, c .before .before .finger-word .ensures, c .before .before .before .low2 .ensures, c .before .before .before .before .low .ensures, c .before .before .before .before .before .flag-word .ensures, c .before .before .before .before .before .before .ottava-word .ensures, c .before .before .before .before .before .before .before .note-head-word .ensures, c .before .before .before .before .before .before .before .before .arpeggio-word .ensures, c .before .before .before .before .before .before .before .before .before .before .before .byte-word .ensures, c .before .before .before .before .before .before .before .before .before .before .before .before .dynamic-word .ensures)))

@@ -25,13 +25,18 @@ store-plain-spec =
     (λ c κs. search needs)
     (λ c κs. search needs)
     (λ c κs. search needs)
+    (λ c κs. search needs)
+    (λ c κs. search needs)
+    (λ c κs. search needs)
     (λ c. search needs)
     (λ c. search needs)
     (λ c κs. search needs)
     (λ c. search needs)
     (λ c s v board flat sums.
     let stored = c .before .before in
-    let finger = stored .before .before .before .before in
+    let end = stored .before .before .before .before in
+    let start = end .before in
+    let finger = start .before in
     let head = finger .before in
     let mark = head .before in
     let normal = mark .before in
@@ -40,7 +45,8 @@ store-plain-spec =
     let flags = dot .before in
     let duration = flags .before in
     let rest = duration .before in
-    let own = rest .before .before in
+    let range = rest .before .before in
+    let own = range .before in
     let its-head = own .before in
     let its-duration = its-head .before in
     let tuplet = its-duration .before in
@@ -53,4 +59,6 @@ store-plain-spec =
     (rw (tuplet .tuplet .ensures) at (normal .normal-word .ensures))
     (mark .mark-word .ensures)
     (rw (its-head .head-of .ensures s v) at (head .note-head-word .ensures))
-    (finger .finger-word .ensures)))
+    (finger .finger-word .ensures)
+    (rw (range .range .ensures) at (start .low .ensures))
+    (rw (range .range .ensures) at (end .low2 .ensures))))

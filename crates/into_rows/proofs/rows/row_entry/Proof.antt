@@ -13,7 +13,7 @@ row-entry-spec =
     (λ c κs. search needs)
     (λ c κs. search needs)
     (λ c ms ps sums bends.
-    let expression = c .before in
+    let expression = c .before .before in
     rw (
       sums .count,
       sums .finger,
