@@ -1,5 +1,5 @@
 -- The row of a beat of plain notes: its words, what it does to the rows before it, and its tables.
-use Prim.Native.Nat.{ℕ, _*_, _≤_, _%_}
+use Prim.Native.Nat.{ℕ, _+_, _*_, _≤_, _%_, min}
 use native.Mathlib.Omega.{arith}
 use native.Mathlib.Nat.{add-zero}
 use mathlib.Core.Path.{_≡_, refl, sym, ap, _∙_}
@@ -12,6 +12,7 @@ use lib.Seq.{sets}
 use Rattle.format.specs.Prog.{has}
 use Rattle.format.specs.Text.{pick}
 use Rattle.tables.specs.Table.{stores}
+use Rattle.tables.proofs.Laws.{sets-append, sets-start}
 use Rattle.model.specs.declared.Member.{Member}
 use Rattle.model.specs.declared.Ottava.{Ottava}
 use Rattle.model.specs.declared.Ottava.the-variants as O
@@ -90,12 +91,13 @@ module _ (place : RowPlace) (board : Fretboard) (flat : Bool) (mark : Level) (b 
 
   -- ---- its words
   pub plain-stored : (rows : List ℕ) (xs : List Keyed) (kept : KeptCounts) {company : Company} {own : Span}
-      {rest duration dot actual normal dynamic head finger start end : ℕ} {r : List ℕ}
-      → r
-      ≡ sets rows (kept .rows * rowStride)
+      {at rest duration dot actual normal dynamic head finger start end : ℕ} {r t : List ℕ}
+      → r ≡ sets t (at + 28) (start ∷ end ∷ [])
+      → t
+      ≡ sets rows at
       (place .bar ∷ place .track ∷ place .voice ∷ 0 ∷ rest ∷ duration ∷ dot ∷ actual ∷ normal ∷ own .first ∷ own .count
-      ∷ 0 ∷ 0 ∷ 0 ∷ 0 ∷ 0 ∷ 0 ∷ dynamic ∷ 0 ∷ 0 ∷ 0 ∷ 0 ∷ head ∷ 0 ∷ 0 ∷ 0 ∷ 0 ∷ finger
-      ∷ start ∷ end ∷ [])
+      ∷ 0 ∷ 0 ∷ 0 ∷ 0 ∷ 0 ∷ 0 ∷ dynamic ∷ 0 ∷ 0 ∷ 0 ∷ 0 ∷ head ∷ 0 ∷ 0 ∷ 0 ∷ 0 ∷ finger ∷ [])
+      → at ≡ min (kept .rows * rowStride) (length rows)
       → Sums (membersOf xs) company
       → own ≡ spanOf (kept .members) (company .count)
       → rest ≡ flagWord (eqb (company .count) 0)
@@ -110,8 +112,9 @@ module _ (place : RowPlace) (board : Fretboard) (flat : Bool) (mark : Level) (b 
       → end ≡ b .range .end % 4294967296
       → r ≡ sets rows (kept .rows * rowStride) (rowWords (rowEntry (row xs) noMarks kept))
   unfolding rowWords frontWords backWords rowEntry plainRow curveHeight
-  plain-stored rows xs kept e sums eo er ed et ea en ey eh ef es el =
-      rw (e, er, ed, et, ea, en, ey, eh, ef, es, el, eo, ← (rest-counted xs sums), sums .count, sums .finger)
+  plain-stored rows xs kept {at = at} {start = start} {end = end} e e₀ ep sums eo er ed et ea en ey eh ef es el =
+      rw (e, e₀, sets-append _ (start ∷ end ∷ []) rows at 28 refl, sets-start _ rows (kept .rows * rowStride) at ep)
+      (rw (er, ed, et, ea, en, ey, eh, ef, es, el, eo, ← (rest-counted xs sums), sums .count, sums .finger))
 
   -- ---- its tables
   module _ (s : List ℕ) (xs : List Keyed) (kept : KeptCounts) (voice : Voice) (rows members points : List ℕ) where

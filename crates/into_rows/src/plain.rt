@@ -21,6 +21,7 @@ use crate::members::Company;
 use beat::places::Beat;
 use curve::level::Level;
 use draft::chord::Chord;
+use entries::rows::ROW_WORDS;
 use entries::rows::set_technique;
 use model::RowPlace;
 use model::Technique;
@@ -41,7 +42,8 @@ fn mark_word(mark: Level) -> u32
     kinds::dynamic_word(dynamic)
 }
 
-// The words of the row, after those that are kept.
+// The words of the row, after those that are kept. Its range is stored apart: in one array with the others the copy into the table
+// would begin with these two words, and wait for them, since they are made last.
 fn store_plain(
     rows: &mut [u32],
     place: RowPlace,
@@ -91,10 +93,11 @@ fn store_plain(
         0,
         0,
         kinds::finger_word(finger),
-        tables::low(range.start),
-        tables::low(range.end),
     ];
-    tables::store_entry(rows, kept.rows as usize, &words);
+    let beat = [tables::low(range.start), tables::low(range.end)];
+    let at = tables::start_of(rows, kept.rows as usize, ROW_WORDS);
+    tables::store_words(rows, at, &words);
+    tables::store_words(rows, at + 28, &beat);
 }
 
 // A row with the hammer mark turns pull-off when this one starts on a lower key.

@@ -29,12 +29,18 @@ store-plain-spec =
     (λ c κs. search needs)
     (λ c κs. search needs)
     (λ c. search needs)
+    (λ c κs. search needs)
+    (λ c. search needs)
+    (λ c κs. search needs)
+    (λ c. search needs)
     (λ c. search needs)
     (λ c κs. search needs)
     (λ c. search needs)
     (λ c s v board flat sums.
-    let stored = c .before .before in
-    let end = stored .before .before .before .before in
+    let behind = c .before .before in
+    let stored = behind .before .before .before .before .before in
+    let place = stored .before .before .before in
+    let end = place .before .before .before in
     let start = end .before in
     let finger = start .before in
     let head = finger .before in
@@ -52,7 +58,7 @@ store-plain-spec =
     let tuplet = its-duration .before in
     let a = tuplet .before .before .before .args in
     plain-stored (a .place) board flat (a .mark) (beatIn s v (a .b .now) (a .notes .now)) (a .rows .now)
-    (chordIn s v (a .notes .now) (a .chord .now)) (a .kept) (stored .store-entry .ensures) sums (own .span-of .ensures) (rest .flag-word .ensures)
+    (chordIn s v (a .notes .now) (a .chord .now)) (a .kept) (behind .store-words2 .ensures) (stored .store-words .ensures) (place .start-of .ensures) sums (own .span-of .ensures) (rest .flag-word .ensures)
     (rw (its-duration .duration .ensures) at (duration .duration-word .ensures))
     (rw (flags .flags .ensures) at (dot .flag-word2 .ensures))
     (rw (tuplet .tuplet .ensures) at (actual .actual-word .ensures))
