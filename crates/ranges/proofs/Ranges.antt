@@ -1,12 +1,11 @@
 -- Every row of a file that is read carries the bytes of its own beat, and these rise.
-use Prim.Native.Nat.{ℕ, _+_, _≤_, _<_}
+use Prim.Native.Nat.{ℕ, _≤_, _<_}
 use native.Mathlib.Omega.{arith}
-use mathlib.Core.Logic.{_⊎_, inl, inr}
+use mathlib.Core.Logic.{inl, inr}
 use mathlib.Core.Path.{_≡_, refl, sym, ap, _∙_}
 use mathlib.Core.Bool.{Bool, true, false}
 use mathlib.Core.List.{List, [], _∷_, _++_}
 use lib.ListN.{length, getD, take}
-use Rattle.format.specs.declared.Range.{Range}
 use Rattle.format.specs.declared.Stop.the-variants.{Ends}
 use Rattle.format.specs.Text.{pick}
 use Rattle.format.specs.Prog.{ok, stopped, run}
@@ -31,10 +30,9 @@ use Rattle.score.specs.Page.{enterBar, addBeat, noBeats, keeping}
 use Rattle.score.specs.Score.{Lists, lists, none, noPart, scored}
 use Rattle.score.specs.Reading.{Score}
 use Rattle.score.proofs.Facts.{BeatFacts, beat-facts}
-use Rattle.refine.proofs.All.{All, all-get, all-weaker}
-use Rattle.refine.proofs.Shown.{pick-both}
+use Rattle.refine.proofs.All.{all-get, all-weaker}
 use Rattle.ranges.specs.Ranges.{Shows, Within, GraceOf, Follows, Rising, Apart}
-use Rattle.ranges.proofs.Rows.{Last, last-of-all, Stands, Risen, row-risen, rows-apart}
+use Rattle.ranges.proofs.Rows.{last-of-all, Stands, stands-later, Risen, row-risen, rows-apart}
 
 -- ---- the rows of a beat that is read from `at` on and ends at n
 
@@ -94,13 +92,7 @@ module _ (s : List ℕ) (v at n : ℕ) (b : BeatIs) (read : run (B.beat v) s at 
   start-risen r own w so =
       let range : r .beat ≡ record { start = at; end = n } = own .range ∙ f .range in
       record {
-        each =
-            all-weaker (Stands s v at) (Stands s v n)
-            (λ q st. record {
-              shows = st .shows;
-              within = record { starts = st .within .starts; ends = omega (arith, st .within .ends, f .starts) };
-            })
-            (w .rows) (so .each);
+        each = stands-later s v at n (omega (arith, f .starts)) (w .rows) (so .each);
         rising = so .rising;
         last =
             last-of-all (λ q. Follows q (entered r w)) (w .rows)
@@ -159,18 +151,7 @@ module _ (s : List ℕ) (v : ℕ) where
   Walked w at = Risen s v at Any (w .rows)
 
   later : (w : Walk Lists) (at n : ℕ) → at ≤ n → Walked w at → Walked w n
-  later w at n h so =
-      record {
-        each =
-            all-weaker (Stands s v at) (Stands s v n)
-            (λ q st. record {
-              shows = st .shows;
-              within = record { starts = st .within .starts; ends = omega (arith, st .within .ends, h) };
-            })
-            (w .rows) (so .each);
-        rising = so .rising;
-        last = so .last;
-      }
+  later w at n h so = record { each = stands-later s v at n h (w .rows) (so .each); rising = so .rising; last = so .last }
 
   enter-walked : (b at : ℕ) (w : Walk Lists) → Walked w at → Walked (enterBar lists b w) at
   unfolding enterBar

@@ -1,13 +1,12 @@
 -- Rows one after another whose bytes rise: how they stay so while rows are added and neighbours change them.
 use Prim.Native.Nat.{ℕ, zero, suc, _+_, _≤_, _<_}
 use native.Mathlib.Omega.{arith}
-use mathlib.Core.Logic.{_⊎_, inl, inr}
+use mathlib.Core.Logic.{inl, inr}
 use mathlib.Core.Path.{_≡_, refl, sym, ap, _∙_}
 use mathlib.Core.Bool.{Bool, true, false, _&&_, true≢false}
 use mathlib.Core.List.{List, [], _∷_, _++_}
 use lib.ListN.{length, getD}
 use Rattle.format.specs.declared.Range.{Range}
-use Rattle.format.specs.Text.{pick}
 use Rattle.tables.specs.Table.{change}
 use Rattle.model.specs.declared.Row.{Row}
 use Rattle.model.specs.declared.RowKind.{RowKind}
@@ -22,9 +21,9 @@ use Rattle.score.specs.declared.OttavaRun.the-variants.{NoRun, Over}
 use Rattle.score.specs.Rows.{RowIs}
 use Rattle.score.specs.Page.{pulls, under, sameKind, turnHammer, turnRun}
 use Rattle.score.specs.Score.{lists}
-use Rattle.refine.proofs.All.{All, all-more, all-change}
+use Rattle.refine.proofs.All.{All, all-more, all-change, all-weaker}
 use Rattle.refine.proofs.Shown.{pick-both}
-use Rattle.ranges.specs.Ranges.{alone, RowOf, Shows, Within, GraceOf, Before, Follows, RisingFrom, Rising, Apart}
+use Rattle.ranges.specs.Ranges.{alone, RowOf, Shows, Within, GraceOf, Follows, RisingFrom, Rising, Apart}
 
 -- ---- the last of some rows
 
@@ -99,6 +98,14 @@ module _ (g : Row → Row) (left : (r q : Row) → Follows r q → Follows (g r)
 pub record Stands (s : List ℕ) (v at : ℕ) (r : Row) : Type 0 where
   pub shows : Shows s v r
   pub within : Within at r
+
+-- further on in the file they stand as they stood
+pub stands-later : (s : List ℕ) (v at n : ℕ) → at ≤ n → (rs : List Row) → All (Stands s v at) rs → All (Stands s v n) rs
+stands-later s v at n h =
+    all-weaker (Stands s v at) (Stands s v n) (λ r st. record {
+      shows = st .shows;
+      within = record { starts = st .within .starts; ends = omega (arith, st .within .ends, h) };
+    })
 
 pub record Risen (s : List ℕ) (v at : ℕ) (P : Row → Type 0) (rs : List Row) : Type 0 where
   pub each : All (Stands s v at) rs
