@@ -1,0 +1,4 @@
+pub mod Front
+pub mod Results
+pub mod Theorems
+pub mod Turns
