@@ -130,7 +130,7 @@ enough (suc n) (suc m) (u ∷ us) h k = judged (front (u ∷ us)) refl (λ w p q
         let l : length (drop (length (character b)) (u ∷ us)) ≡ suc (length us) - length (character b) = length-drop (length (character b)) (u ∷ us) in
         ap (before b) (more (drop (length (character b)) (u ∷ us)) (omega arith) (omega arith))
 
-back-next : (us : List ℕ) (b : ℕ) → 0 < length us → front us ≡ some b → back us ≡ before b (back (drop (length (character b)) us))
+pub back-next : (us : List ℕ) (b : ℕ) → 0 < length us → front us ≡ some b → back us ≡ before b (back (drop (length (character b)) us))
 unfolding back backBy
 back-next [] b h e = absurd (omega arith)
 back-next (u ∷ us) b h e =
@@ -138,6 +138,10 @@ back-next (u ∷ us) b h e =
     let rest = drop (length (character b)) (u ∷ us) in
     let l : length rest ≡ suc (length us) - length (character b) = length-drop (length (character b)) (u ∷ us) in
     rw e (ap (before b) (enough (length us) (length rest) rest (omega arith) (omega arith)))
+
+pub back-empty : back [] ≡ some []
+unfolding back backBy
+back-empty = refl
 
 back-refused : (us : List ℕ) → 0 < length us → front us ≡ none → back us ≡ none
 unfolding back backBy

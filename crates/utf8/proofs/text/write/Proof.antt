@@ -48,8 +48,7 @@ write-spec =
     let h = c .before .before .before .before .before .before .character-of .ensures in
     let o = c .before .before .before .before .before .before .before .before .before in
     let a = c .before .before .before .before .before .before .before .before .before .before .before .before .args in
-    let room = write-room (a .text .now) (o .loop .i) _ _ (c .before .before .before .before .before .before .before .before .loop-test .taken) h in
-    (
+    let room = write-room (a .text .now) (o .loop .i) _ _ (c .before .before .before .before .before .before .before .before .loop-test .taken) h in (
       search needs,
       rw (c .before .before .store .ensures) (simp length-sets (o .loop .inv .1)),
       omega (arith, o .loop .inv .2),
