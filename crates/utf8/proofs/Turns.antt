@@ -12,7 +12,7 @@ use borrow.Author.Tests.{eq-eqb, ne-eqb, le-leb, lt-leb}
 use lib.ListN.{length, getD, set, take, drop, length-append, length-take, length-drop, drop-of-length-le}
 use lib.Seq.{sets, sets-eq, take-all, drop-cons, drop-drop}
 use Rattle.tables.proofs.Laws.{sets-append}
-use Rattle.utf8.specs.Characters.{codePoint, encoded, character, written}
+use Rattle.utf8.specs.Characters.{encoded, character, written}
 use Rattle.utf8.specs.Back.{begins, front, before, followed, backBy, back}
 use Rattle.utf8.specs.declared.back.Found.{Found}
 use Rattle.utf8.specs.declared.back.Found.the-variants.{Byte, NoByte}
@@ -51,37 +51,36 @@ module _ (us xs : List ℕ) (i : ℕ) (k : length xs ≤ length us) (left : begi
   begins-out h = rw (drop-of-length-le xs h) at left
 
 -- ---- a character as the code has it: the first n of some bytes
-module _ (b code : ℕ) (e : code ≡ codePoint b) where
-  made : (n : ℕ) (xs : List ℕ) → n ≡ length (take n xs) → encoded code ≡ take n xs → Holds b n xs
-  unfolding character
-  made n xs l g = let k : take n xs ≡ encoded (codePoint b) = sym g ∙ ap encoded e in record { size = l ∙ ap length k; same = k }
+module _ (code : ℕ) where
+  made : (n : ℕ) (xs : List ℕ) → n ≡ length (take n xs) → encoded code ≡ take n xs → Holds (encoded code) n xs
+  made n xs l g = record { size = l ∙ ap length (sym g); same = sym g }
 
-  pub one-byte : (y z : ℕ) → code < 0x80 → Holds b 1 (code ∷ y ∷ z ∷ [])
+  pub one-byte : (y z : ℕ) → code < 0x80 → Holds (encoded code) 1 (code ∷ y ∷ z ∷ [])
   one-byte y z h = made 1 _ refl (encoded-one code h)
 
-  pub two-bytes : (z : ℕ) → 0x80 ≤ code → code < 0x800 → Holds b 2 ((0xC0 + code / 64) ∷ (0x80 + code % 64) ∷ z ∷ [])
+  pub two-bytes : (z : ℕ) → 0x80 ≤ code → code < 0x800 → Holds (encoded code) 2 ((0xC0 + code / 64) ∷ (0x80 + code % 64) ∷ z ∷ [])
   two-bytes z h k = made 2 _ refl (encoded-two code h k)
 
-  pub three-bytes : 0x800 ≤ code → Holds b 3 ((0xE0 + code / 4096) ∷ (0x80 + code / 64 % 64) ∷ (0x80 + code % 64) ∷ [])
+  pub three-bytes : 0x800 ≤ code → Holds (encoded code) 3 ((0xE0 + code / 4096) ∷ (0x80 + code / 64 % 64) ∷ (0x80 + code % 64) ∷ [])
   three-bytes h = made 3 _ refl (encoded-three code h)
 
-module _ {byte n : ℕ} {xs : List ℕ} (c : Holds byte n xs) where
+module _ {text : List ℕ} {n : ℕ} {xs : List ℕ} (c : Holds text n xs) where
   pub character-within : n ≤ length xs
   character-within = omega (arith, length-take n xs, ap length (c .same), c .size)
 
   pub character-whole : n ≡ length (take n xs)
   character-whole = c .size ∙ sym (ap length (c .same))
 
-  module _ (s : List ℕ) {t : Bool} (b : t ≡ begins (take n xs) s) where
-    pub found-there : byte < 256 → t ≡ true → Byte byte n ≡ foundOf (front s)
-    found-there h g =
-        let k : begins (character byte) s ≡ true = ap (λ (x : List ℕ). begins x s) (sym (c .same)) ∙ sym b ∙ g in
-        rw (front-is s byte h k) (ap (Byte byte) (c .size))
+module _ (byte : ℕ) {n : ℕ} {xs : List ℕ} (c : Holds (character byte) n xs) (s : List ℕ) {t : Bool} (b : t ≡ begins (take n xs) s) where
+  pub found-there : byte < 256 → t ≡ true → Byte byte n ≡ foundOf (front s)
+  found-there h g =
+      let k : begins (character byte) s ≡ true = ap (λ (x : List ℕ). begins x s) (sym (c .same)) ∙ sym b ∙ g in
+      rw (front-is s byte h k) (ap (Byte byte) (c .size))
 
-    pub found-nowhere : ((a : ℕ) → a < 256 → begins (character a) s ≡ true → byte ≡ a) → t ≡ false → NoByte ≡ foundOf (front s)
-    found-nowhere only g =
-        let k : begins (character byte) s ≡ false = ap (λ (x : List ℕ). begins x s) (sym (c .same)) ∙ sym b ∙ g in
-        rw (front-is-none s byte only k)
+  pub found-nowhere : ((a : ℕ) → a < 256 → begins (character a) s ≡ true → byte ≡ a) → t ≡ false → NoByte ≡ foundOf (front s)
+  found-nowhere only g =
+      let k : begins (character byte) s ≡ false = ap (λ (x : List ℕ). begins x s) (sym (c .same)) ∙ sym b ∙ g in
+      rw (front-is-none s byte only k)
 
 -- ---- writing
 pub written-next : (bs : List ℕ) (i : ℕ) → i < length bs → written (drop i bs) ≡ character (getD bs i 0) ++ written (drop (i + 1) bs)
@@ -95,11 +94,11 @@ pub written-out : (bs : List ℕ) (i : ℕ) → length bs ≤ i → written (dro
 unfolding written
 written-out bs i h = rw (drop-of-length-le bs h)
 
-pub write-room : (bs : List ℕ) (i n : ℕ) (xs : List ℕ) → i < length bs → Holds (getD bs i 0) n xs → length (written (drop i bs)) ≡ n + length (written (drop (i + 1) bs))
+pub write-room : (bs : List ℕ) (i n : ℕ) (xs : List ℕ) → i < length bs → Holds (character (getD bs i 0)) n xs → length (written (drop i bs)) ≡ n + length (written (drop (i + 1) bs))
 write-room bs i n xs h c = omega (arith, written-length bs i h, c .size)
 
 -- a character is stored where those before it end
-pub write-on : (bs out : List ℕ) (at i n : ℕ) (xs : List ℕ) → i < length bs → Holds (getD bs i 0) n xs
+pub write-on : (bs out : List ℕ) (at i n : ℕ) (xs : List ℕ) → i < length bs → Holds (character (getD bs i 0)) n xs
     → sets (sets out at (take n xs)) (at + n) (written (drop (i + 1) bs)) ≡ sets out at (written (drop i bs))
 write-on bs out at i n xs h c =
     sets-append (take n xs) (written (drop (i + 1) bs)) out at n (sym (character-whole c))

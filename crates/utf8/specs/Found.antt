@@ -15,10 +15,10 @@ use Rattle.utf8.specs.declared.back.ReadBack.the-variants.{Characters, R
 use Rattle.utf8.specs.Characters.{character}
 use Rattle.utf8.specs.Answers.{largest}
 
--- the character of a byte, as the first so many of some bytes
-pub record Holds (b len : ℕ) (bytes : List ℕ) : Type 0 where
-  pub size : len ≡ length (character b)
-  pub same : take len bytes ≡ character b
+-- a text, as the first so many of some bytes
+pub record Holds (text : List ℕ) (len : ℕ) (bytes : List ℕ) : Type 0 where
+  pub size : len ≡ length text
+  pub same : take len bytes ≡ text
 
 -- a length, as far as one can be stated
 abbrev pub stated : ℕ → Length

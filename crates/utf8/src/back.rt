@@ -87,7 +87,8 @@ fn begins_with(s: &[u8], bytes: &[u8]) -> bool
 fn front_of(s: &[u8]) -> Found
     ensures { λ r. ⌜ r ≡ foundOf (front (now (s .entry))) ⌝ }
 {
-    let byte = byte_of(code_at(s));
+    let code = code_at(s);
+    let byte = byte_of(code);
     let character = character_of(byte);
     let bytes = character.bytes;
     let len = character.len;

@@ -1,6 +1,6 @@
 // The character of a byte: its code point by the windows-1252 index, and that in UTF-8.
 ghost use mathlib.Core.Path.{_≡_};
-ghost use Rattle.utf8.specs.Characters.{codePoint};
+ghost use Rattle.utf8.specs.Characters.{codePoint, encoded, character};
 ghost use Rattle.utf8.specs.Found.{Holds};
 
 // Of the bytes 0x80 to 0x9F.
@@ -58,10 +58,9 @@ fn code_point(b: u8) -> u16
     b as u16
 }
 
-pub fn character_of(b: u8) -> Character
-    ensures { λ r. ⌜ Holds b (r .len) (r .bytes) ⌝ }
+fn encoded_of(code: u16) -> Character
+    ensures { λ r. ⌜ Holds (encoded code) (r .len) (r .bytes) ⌝ }
 {
-    let code = code_point(b);
     if code < 0x80 {
         return Character {
             bytes: [code as u8, 0, 0],
@@ -83,4 +82,10 @@ pub fn character_of(b: u8) -> Character
         ],
         len: 3,
     }
+}
+
+pub fn character_of(b: u8) -> Character
+    ensures { λ r. ⌜ Holds (character b) (r .len) (r .bytes) ⌝ }
+{
+    encoded_of(code_point(b))
 }

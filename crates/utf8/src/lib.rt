@@ -77,12 +77,12 @@ pub fn from_utf8(data: &[u8], out: &mut [u8]) -> Coded
         let result = fromUtf8 (now («data» .entry)) (now (out .entry)) in
         ⌜ (r ≡ result .coded) × (now (out .exit) ≡ result .buffer) ⌝ }
 {
-    let ReadBack::Characters(needed) = back::count(data) else {
+    let ReadBack::Characters(size) = back::count(data) else {
         return Coded::NoCharacter;
     };
-    if out.len() < needed {
-        return Coded::Short(needed);
+    if out.len() < size {
+        return Coded::Short(size);
     }
     back::read(data, out);
-    Coded::Wrote(needed)
+    Coded::Wrote(size)
 }

@@ -15,5 +15,5 @@ front-of-spec =
     (λ c. character-within (c .before .character-of .ensures))
     (λ c. character-whole (c .before .before .character-of .ensures))
     (λ c κs. search needs)
-    (λ c. found-there (c .before .before .before .before .character-of .ensures) _ (c .before .begins-with .ensures) (search needs) (c .if1 .taken))
-    (λ c. found-nowhere (c .before .before .before .before .character-of .ensures) _ (c .before .begins-with .ensures) (byte-only _ _ _ (c .before .before .before .before .before .before .code-at .ensures) (c .before .before .before .before .before .byte-of .ensures)) (c .if1 .left)))
+    (λ c. found-there _ (c .before .before .before .before .character-of .ensures) _ (c .before .begins-with .ensures) (search needs) (c .if1 .taken))
+    (λ c. found-nowhere _ (c .before .before .before .before .character-of .ensures) _ (c .before .begins-with .ensures) (byte-only _ _ _ (c .before .before .before .before .before .before .code-at .ensures) (c .before .before .before .before .before .byte-of .ensures)) (c .if1 .left)))

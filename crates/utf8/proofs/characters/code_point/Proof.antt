@@ -1,4 +1,5 @@
 -- By the two tests.
+use native.Mathlib.Omega.{arith}
 use borrow.Author.Tests.{le-leb, lt-leb}
 use Rattle.utf8.specs.Characters.{index, codePoint}
 use borrow.Author.Needs.{needs}
@@ -14,5 +15,5 @@ code-point-spec =
     (λ c. search needs)
     (λ c. search needs)
     (λ c. search needs)
-    (λ c. simp (le-leb _ _ (c .before .if1 .left), le-leb _ _ (c .if2 .taken)))
-    (λ c. simp (le-leb _ _ (c .before .if1 .left), lt-leb _ _ (c .if2 .left))))
+    (λ c. simp (le-leb _ _ (c .before .if1 .left), le-leb (c .before .before .args .b) 0x9F (omega arith)))
+    (λ c. simp (le-leb _ _ (c .before .if1 .left), lt-leb (c .before .before .args .b) 0x9F (omega arith))))
