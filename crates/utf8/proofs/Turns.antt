@@ -10,7 +10,7 @@ use mathlib.Core.Bool.{Bool, true, false, _&&_}
 use lib.Dec.{eqb}
 use borrow.Author.Tests.{eq-eqb, ne-eqb, le-leb, lt-leb}
 use lib.ListN.{length, getD, set, take, drop, length-append, length-take, length-drop, drop-of-length-le}
-use lib.Seq.{sets, sets-eq, take-all, drop-cons, drop-drop}
+use lib.Seq.{sets, take-all, drop-cons, drop-drop}
 use Rattle.tables.proofs.Laws.{sets-append}
 use Rattle.utf8.specs.Characters.{encoded, character, written}
 use Rattle.utf8.specs.Back.{begins, front, before, followed, backBy, back}
@@ -18,7 +18,6 @@ use Rattle.utf8.specs.declared.back.Found.{Found}
 use Rattle.utf8.specs.declared.back.Found.the-variants.{Byte, NoByte}
 use Rattle.utf8.specs.declared.back.ReadBack.{ReadBack}
 use Rattle.utf8.specs.declared.back.ReadBack.the-variants.{Characters, Refused}
-use Rattle.utf8.specs.declared.text.Length.{Length}
 use Rattle.utf8.specs.declared.text.Length.the-variants.{Bytes, TooLong}
 use Rattle.utf8.specs.Answers.{largest}
 use Rattle.utf8.specs.Found.{Holds, stated, foundOf, counted}

@@ -8,7 +8,6 @@ mod characters;
 mod text;
 
 use crate::back::ReadBack;
-use crate::text::Length;
 use format::Range;
 
 pub enum Coded {
@@ -60,15 +59,7 @@ pub fn to_utf8(data: &[u8], range: Range, out: &mut [u8]) -> Coded
     if data.len() < end {
         return Coded::NoRange;
     }
-    let part = &data[start..end];
-    let Length::Bytes(needed) = text::length_of(part) else {
-        return Coded::Short(text::LARGEST);
-    };
-    if out.len() < needed {
-        return Coded::Short(needed);
-    }
-    text::write(part, out);
-    Coded::Wrote(needed)
+    text::put(&data[start..end], out)
 }
 
 // All of `data`: a caller with a range lends that part.
