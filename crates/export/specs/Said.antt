@@ -6,6 +6,8 @@ use Rattle.model.specs.declared.Answer.{Answer}
 use Rattle.model.specs.declared.Outcome.{Outcome}
 use Rattle.model.specs.declared.Sizes.{Sizes}
 use Rattle.model.specs.Answers.{numbersOf}
+use Rattle.utf8.specs.declared.Coded.{Coded}
+use Rattle.utf8.specs.Answers.{numberOf, lengthOf}
 
 abbrev pub sizeWords : Sizes → List ℕ
 sizeWords x = x .bars ∷ x .tracks ∷ x .rows ∷ x .members ∷ x .points ∷ x .texts ∷ []
@@ -20,3 +22,7 @@ unfoldable pub saidWords : Answer → List ℕ
 saidWords x =
     numbersOf (x .outcome) .number ∷ x .song .used % 4294967296
     ∷ sizeWords (x .counts) ++ sizeWords (x .rooms) ++ countWords (x .outcome)
+
+-- the answer of writing UTF-8, and of reading it back
+abbrev pub codedWords : Coded → List ℕ
+codedWords x = numberOf x ∷ lengthOf x ∷ []

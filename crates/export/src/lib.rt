@@ -1,9 +1,12 @@
-// The reader for a program in another language: a static library of one function (rt staticlib export).
+// For a program in another language: a static library (rt staticlib export) of the reader and, in `titles`, of texts as UTF-8.
 ghost use mathlib.Core.Path.{_≡_};
 ghost use lib.Seq.{sets};
 ghost use Rattle.score.specs.Reading.{reading};
 ghost use Rattle.reader.specs.Answered as reader;
 ghost use Rattle.export.specs.Said.{saidWords};
+
+pub mod titles;
+
 use model::Answer;
 use model::answers;
 
