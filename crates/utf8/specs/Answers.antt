@@ -1,4 +1,4 @@
--- What the two functions answer, and what they leave in the buffer (document 02, l). Document 02's number and length of each answer.
+-- What the two functions answer, and what they leave in the buffer (document 02, l).
 use Prim.Native.Nat.{ℕ, min}
 use mathlib.Core.List.{List, _++_}
 use mathlib.Core.Option.{Option, none, some}
@@ -12,13 +12,14 @@ use Rattle.utf8.specs.declared.Coded.the-variants.{Wrote, NoRange, NoCha
 use Rattle.utf8.specs.Characters.{written}
 use Rattle.utf8.specs.Back.{back}
 
+-- document 02's number of an answer
 abbrev pub numberOf : Coded → ℕ
 numberOf (Wrote n) = 0
 numberOf NoRange = 9
 numberOf NoCharacter = 10
 numberOf (Short n) = 8
 
--- the length, or the length needed
+-- the length, or the length needed; 0 where the answer names none
 abbrev pub lengthOf : Coded → ℕ
 lengthOf (Wrote n) = n
 lengthOf NoRange = 0
@@ -29,6 +30,7 @@ pub record Result : Type 0 where
   pub coded : Coded
   pub buffer : List ℕ
 
+-- a refusal leaves the buffer as it was
 abbrev pub refused : Coded → List ℕ → Result
 refused why out = record { coded = why; buffer = out }
 
@@ -43,10 +45,12 @@ put text out =
     (record { coded = Wrote (length text); buffer = text ++ drop (length text) out })
     (refused (Short (min (length text) largest)) out)
 
+-- 9 for a range that does not fit, then 8
 unfoldable pub toUtf8 : List ℕ → Range → List ℕ → Result
 toUtf8 s r out =
     whenWithin s (r .start) (r .end) (put (written (partOf s (r .start) (r .end))) out) (refused NoRange out)
 
+-- 10 where nothing is read back, then 8
 abbrev pub handed : Option (List ℕ) → List ℕ → Result
 handed none out = refused NoCharacter out
 handed (some bs) out = put bs out

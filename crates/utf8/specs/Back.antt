@@ -15,11 +15,12 @@ begins [] us = true
 begins (x ∷ xs) [] = false
 begins (x ∷ xs) (u ∷ us) = eqb x u && begins xs us
 
--- of the bytes below n the one whose character stands at the front
+-- of the bytes below n, sought from the last one down, the first whose character stands at the front
 unfoldable pub among : ℕ → List ℕ → Option ℕ
 among zero us = none
 among (suc n) us = pick (begins (character n) us) (some n) (among n us)
 
+-- the byte whose character stands at the front
 unfoldable pub front : List ℕ → Option ℕ
 front us = among 256 us
 

@@ -13,7 +13,7 @@ index =
     ∷ 0x90 ∷ 0x2018 ∷ 0x2019 ∷ 0x201C ∷ 0x201D ∷ 0x2022 ∷ 0x2013 ∷ 0x2014
     ∷ 0x2DC ∷ 0x2122 ∷ 0x161 ∷ 0x203A ∷ 0x153 ∷ 0x9D ∷ 0x17E ∷ 0x178 ∷ []
 
--- the code point of a byte; all others are their own
+-- the code point of a byte: the index has those of these 32, every other byte is its own
 unfoldable pub codePoint : ℕ → ℕ
 codePoint b = pick (leb 0x80 b) (pick (leb b 0x9F) (getD index (b - 0x80) 0) b) b
 

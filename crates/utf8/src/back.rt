@@ -5,11 +5,12 @@ ghost use mathlib.Core.Bool.{true};
 ghost use mathlib.Core.List.{List};
 ghost use mathlib.Core.Option.{some};
 ghost use Prim.Native.Nat.{ℕ, _<_};
-ghost use lib.ListN.{length, getD, set};
+ghost use lib.ListN.{set};
 ghost use lib.Seq.{sets};
 ghost use Rattle.utf8.specs.Characters.{codePoint, encoded};
 ghost use Rattle.utf8.specs.Back.{begins, front, back};
 ghost use Rattle.utf8.specs.Found.{foundOf, counted};
+use bin::ahead;
 use crate::characters::INDEX;
 use crate::characters::character_of;
 
@@ -25,22 +26,13 @@ pub enum ReadBack {
     Refused,
 }
 
-fn byte_at(s: &[u8], i: usize) -> u8
-    ensures { λ r. ⌜ r ≡ getD (now (s .entry)) i 0 ⌝ }
-{
-    if i < s.len() {
-        return s[i];
-    }
-    0
-}
-
 // The code point whose UTF-8 stands at the front, if there is one.
 fn code_at(s: &[u8]) -> u16
     ensures { λ r. ⌜ ((c : ℕ) → c < 65536 → begins (encoded c) (now (s .entry)) ≡ true → r ≡ c) ⌝ }
 {
-    let first = byte_at(s, 0) as u16;
-    let second = byte_at(s, 1) as u16;
-    let third = byte_at(s, 2) as u16;
+    let first = ahead::byte(s, 0) as u16;
+    let second = ahead::byte(s, 1) as u16;
+    let third = ahead::byte(s, 2) as u16;
     if first < 0x80 {
         return first;
     }
