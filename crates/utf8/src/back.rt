@@ -10,9 +10,9 @@ ghost use lib.Seq.{sets};
 ghost use Rattle.utf8.specs.Characters.{codePoint, encoded};
 ghost use Rattle.utf8.specs.Back.{begins, front, back};
 ghost use Rattle.utf8.specs.Found.{foundOf, counted};
-use bin::ahead;
 use crate::characters::INDEX;
 use crate::characters::character_of;
+use bin::ahead;
 
 // A byte, and the length of its character.
 pub enum Found {
