@@ -1,3 +1,4 @@
+-- The loop ends with the last byte, or with two that differ.
 use Prim.Native.Nat.{_≤_, _-_}
 use lib.ListN.{length}
 use mathlib.Core.Path.{_≡_}

@@ -1,3 +1,4 @@
+-- The loop ends with byte 255.
 use Prim.Native.Nat.{_≤_, _-_}
 use borrow.Author.Needs.{needs}
 use Rattle.characters.proofs.with_one.Statement.{statement}

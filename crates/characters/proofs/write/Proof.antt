@@ -1,3 +1,4 @@
+-- The buffer has room for the part that is lent.
 use mathlib.Core.Path.{sym}
 use lib.Seq.{length-take-le}
 use borrow.Author.Needs.{needs}
