@@ -76,7 +76,7 @@ fn any_chord_name(s: &[u8], from: Place, v: u32) -> StringRead
 
 // The chord's name, where the beat's flags say that it has a chord.
 pub(crate) fn chord_at(s: &[u8], from: Place, v: u32, flags: u8, b: &mut Beat) -> Place
-    ensures { meaning.Stores (format.chord_name v flags) s.now from meaning.CHORD-START b.old
+    ensures { meaning.Stores (format.chord_name v flags) s.now from meaning.CHORD_START b.old
         b.new (text_in s.now (meaning.chord_in flags b.new)) result }
 {
     if flags & 0x02 == 0 {
@@ -90,7 +90,7 @@ pub(crate) fn chord_at(s: &[u8], from: Place, v: u32, flags: u8, b: &mut Beat) -
 
 // The beat's text, where its flags say that it has one.
 pub(crate) fn text_at(s: &[u8], from: Place, flags: u8, b: &mut Beat) -> Place
-    ensures { meaning.Stores (format.beat_text flags) s.now from meaning.TEXT-START b.old
+    ensures { meaning.Stores (format.beat_text flags) s.now from meaning.TEXT_START b.old
         b.new (text_in s.now (meaning.text_range flags b.new)) result }
 {
     if flags & 0x04 == 0 {

@@ -11,7 +11,7 @@ use crate::places::{Beat, pass_if, put, put_if};
 use format::Place;
 use model::Arpeggio;
 
-#[derive(Drop)]
+#[derive(Clone, Copy)]
 pub enum PickStroke {
     NoStroke,
     Up,
@@ -19,7 +19,7 @@ pub enum PickStroke {
 }
 
 // The effects of a beat, as the format's definitions have them.
-#[derive(Drop)]
+#[derive(Clone, Copy)]
 pub struct BeatEffects {
     pub vibrato: bool,
     pub tap: bool,
@@ -34,7 +34,7 @@ pub struct BeatEffects {
 }
 
 // What the tapping byte says: a tap, a slap or pop, or the whammy of the first versions.
-#[derive(Drop)]
+#[derive(Clone, Copy)]
 struct Tapping {
     tap: bool,
     slap: bool,
@@ -66,7 +66,7 @@ fn tremolo_bar(s: &[u8], from: Place, more: u8) -> Place
 fn brush_at(s: &[u8], at: usize, flags: u8, b: &mut Beat) -> usize
     requires { Near 2 at }
     ensures { (v : ℕ)
-        → Fills (format.brush v flags) 2 s.now at meaning.BRUSH-FIRST b.old b.new
+        → Fills (format.brush v flags) 2 s.now at meaning.BRUSH_FIRST b.old b.new
         (meaning.brush_in v flags b.new) result }
 {
     if flags & 0x40 == 0 {
@@ -89,8 +89,8 @@ fn strokes_at(s: &[u8], at: usize, flags: u8, more: u8, b: &mut Beat) -> Place
 // What stands behind the first flags. The bar is read from place to place: a count of points may be refused.
 fn effects_end(s: &[u8], at: usize, v: u32, flags: u8, b: &mut Beat) -> Place
     requires { Near 6 at }
-    ensures { FillsTo (meaning.effects_end v flags) s.now at meaning.MORE-EFFECTS b.old b.new
-        (meaning.effects_with v flags (byte_in b.new meaning.MORE-EFFECTS) b.new) result }
+    ensures { FillsTo (meaning.effects_end v flags) s.now at meaning.MORE_EFFECTS b.old b.new
+        (meaning.effects_with v flags (byte_in b.new meaning.MORE_EFFECTS) b.new) result }
 {
     let at = put_if(s, at, 400 <= v, b, places::MORE_EFFECTS);
     let more = places::byte_of(b, places::MORE_EFFECTS);

@@ -73,8 +73,9 @@ pub fn text(b: &Beat) -> Range
 }
 
 // Where the beat itself stands.
+#[tactic(auto, unfolding(crate::specs::Words::range_in))]
 pub fn range(b: &Beat) -> Range
-    ensures { result ≡ meaning.range_in true b.now meaning.RANGE-START }
+    ensures { result ≡ meaning.range_in true b.now meaning.RANGE_START }
 {
     Range {
         start: b[places::RANGE_START],

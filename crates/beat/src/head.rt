@@ -11,7 +11,7 @@ use format::Place;
 use model::{Duration, Tuplet};
 
 // A head, as the format's definitions have it.
-#[derive(Drop)]
+#[derive(Clone, Copy)]
 pub struct Head {
     pub flags: u8,
     pub kept: bool,

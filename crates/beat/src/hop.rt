@@ -6,7 +6,7 @@ use format::Place;
 use note::notes::{Hop, hop_notes};
 
 // Where the beat ends, and its strings.
-#[derive(Drop)]
+#[derive(Clone, Copy)]
 pub enum BeatHop {
     To(usize, u8),
     No,

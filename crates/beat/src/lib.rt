@@ -1,4 +1,6 @@
 // One beat: its head, chord, text, effects, mix table, notes and tail, read into words that are lent.
+#![tactic(auto)]
+
 ghost use Rattle.format.specs.Place.{Reaches};
 ghost use Rattle.beat.specs.Beat as format;
 ghost use Rattle.beat.specs.Words as meaning;

@@ -13,7 +13,7 @@ use model::kinds::flag_word;
 use note::optional::skip_if;
 
 // Whether each of three values of the mix table is 0 or more.
-#[derive(Drop)]
+#[derive(Clone, Copy)]
 struct Signs {
     a: bool,
     b: bool,
@@ -21,20 +21,20 @@ struct Signs {
 }
 
 // What goes on of a mix table, as the format's definitions have it.
-#[derive(Drop)]
+#[derive(Clone, Copy)]
 pub struct Mix {
     pub tempo: Tempo,
     pub wah_lost: bool,
     pub change_lost: bool,
 }
 
-#[derive(Drop)]
+#[derive(Clone, Copy)]
 struct SignRead {
     given: bool,
     next: Place,
 }
 
-#[derive(Drop)]
+#[derive(Clone, Copy)]
 struct SignsRead {
     signs: Signs,
     next: Place,

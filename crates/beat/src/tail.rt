@@ -9,7 +9,7 @@ use crate::places;
 use crate::places::{Beat, pass_if, store};
 
 // Its flags, and where the beat ends.
-#[derive(Drop)]
+#[derive(Clone, Copy)]
 pub(crate) struct Tail {
     pub flags: u32,
     pub next: usize,

@@ -9,7 +9,7 @@ use crate::signed::less_one;
 use format::{NO_RANGE, Place, Range, Stop};
 
 // A text's range, and where reading goes on.
-#[derive(Drop)]
+#[derive(Clone, Copy)]
 pub struct StringRead {
     pub range: Range,
     pub next: Place,

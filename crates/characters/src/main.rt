@@ -1,5 +1,7 @@
 // Tries `utf8` against what tools/utf8-list says, which makes the file stdout by other means: each byte written and read back; every text
 // of up to three bytes read back, a line for each first byte; and the traps by name. Every buffer holds other bytes before a call.
+#![tactic(auto)]
+
 ghost use Rattle.std.specs.Prelude.{◌≤◌};
 
 use format::Range;
@@ -18,7 +20,7 @@ const WORD: u64 = 4294967296;
 
 // Of the texts with one first byte: how many are accepted, of those with one, two and three bytes; what they are and give, digested; and
 // how many have a fault: another refusal than 10, a byte of the buffer touched that should not be, or another text when written again.
-#[derive(Drop)]
+#[derive(Clone, Copy)]
 struct Tally {
     ones: u64,
     twos: u64,

@@ -6,28 +6,28 @@ use crate::held::dynamic_of;
 use crate::truth::either;
 
 // A dynamic that a note stores, a note or chord gives, or a row is marked with.
-#[derive(Drop)]
+#[derive(Clone, Copy)]
 pub enum Level {
     Absent,
     Given(u8),
 }
 
 // What a note says about the dynamic.
-#[derive(Drop)]
+#[derive(Clone, Copy)]
 pub struct NoteLevel {
     pub emphasised: bool,
     pub given: Level,
 }
 
 // What the members of a chord say about it: whether all are emphasised, and what the last that gives one gives.
-#[derive(Drop)]
+#[derive(Clone, Copy)]
 pub struct ChordLevel {
     pub emphasised: bool,
     pub given: Level,
 }
 
 // The running dynamic after a chord, and the chord's mark.
-#[derive(Drop)]
+#[derive(Clone, Copy)]
 pub struct LevelAfter {
     pub running: u8,
     pub mark: Level,

@@ -1,4 +1,6 @@
 // What a note's numbers come to, as pure functions by value: bend curves, slide marks, dynamics and keys.
+#![tactic(auto)]
+
 pub mod held; // numbers held to their ranges
 pub mod bend; // the bend curve and its height
 pub mod slide; // slides and slide marks

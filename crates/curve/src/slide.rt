@@ -5,7 +5,7 @@ ghost use Rattle.curve.specs.Slide.{bits_slide, kind_slide, slide_of};
 use crate::truth::{both, either};
 
 // What a slide byte says.
-#[derive(Drop)]
+#[derive(Clone, Copy)]
 pub struct SlideEffect {
     pub slide: bool, // a shift or legato slide
     pub falloff: bool,

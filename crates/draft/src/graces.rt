@@ -13,7 +13,7 @@ use note::marks::{Grace, GraceNote};
 use note::places::Notes;
 
 // `any`: whether there are graces.
-#[derive(Drop)]
+#[derive(Clone, Copy)]
 pub struct Graces {
     pub any: bool,
     pub text: TechniqueText,

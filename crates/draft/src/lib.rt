@@ -1,5 +1,7 @@
 // What is made of a beat: which of its notes sound, in the order of their keys, and the rows of a kept beat before they are entered in
 // the tables.
+#![tactic(auto)]
+
 pub mod chord; // a chord as words
 pub mod sounding; // which notes sound, in the order of their keys
 pub mod member; // the members of a row
@@ -18,7 +20,7 @@ use model::{
 use note::bend::Bend;
 
 // A row but for its members, which are made of the chord where they are entered; its bend where the points stand in the file.
-#[derive(Drop)]
+#[derive(Clone, Copy)]
 pub struct Draft {
     pub place: RowPlace,
     pub kind: RowKind,

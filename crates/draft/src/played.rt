@@ -11,7 +11,7 @@ use note::bend::Bend;
 use note::field;
 use note::places::Notes;
 
-#[derive(Drop)]
+#[derive(Clone, Copy)]
 pub struct Played {
     pub text: TechniqueText,
     pub technique: Technique,

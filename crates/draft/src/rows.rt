@@ -125,6 +125,7 @@ pub fn beat_row(
 }
 
 // The row of graces that give it so much; its bytes are those of their beat.
+#[tactic(auto, unfolding(crate::specs::Steps::grace_draft))]
 pub fn grace_row(place: RowPlace, beat: Range, x: Graces) -> Draft
     ensures { result ≡ grace_draft place beat x }
 {

@@ -18,7 +18,7 @@ use model::marks::{Marks, none_added};
 use note::field;
 use note::places::Notes;
 
-#[derive(Drop)]
+#[derive(Clone, Copy)]
 pub(crate) struct Voiced {
     pub played: Played,
     pub marks: Marks,

@@ -1,4 +1,6 @@
 // Writes the dump of the file on standard input, of at most 1 MiB: the answer of its reading, and the tables entry by entry.
+#![tactic(auto)]
+
 use entries::bars::BAR_WORDS;
 use entries::members::MEMBER_WORDS;
 use entries::points::POINT_WORDS;

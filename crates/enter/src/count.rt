@@ -19,7 +19,7 @@ use score::KeptCounts;
 use words::plus;
 
 // How many notes sound, and how many graces stand before them.
-#[derive(Drop)]
+#[derive(Clone, Copy)]
 struct Heard {
     notes: u32,
     graces: u32,

@@ -1,4 +1,6 @@
 // The entries of the six lent tables: their words, stored and loaded. docs/TABLES.md has them word by word.
+#![tactic(auto)]
+
 ghost use Rattle.std.specs.Prelude.{◌≡◌, ◌%◌, get_or};
 ghost use Rattle.model.specs.Kinds.{flag_of};
 ghost use Rattle.entries.specs.Words.{range_of};
@@ -15,37 +17,37 @@ pub mod tracks;
 
 // ---- an entry of a table, or no entry where the table does not hold it whole
 
-#[derive(Drop)]
+#[derive(Clone, Copy)]
 pub enum BarAt {
     ThisBar(Bar),
     NoBar,
 }
 
-#[derive(Drop)]
+#[derive(Clone, Copy)]
 pub enum TrackAt {
     ThisTrack(Track),
     NoTrack,
 }
 
-#[derive(Drop)]
+#[derive(Clone, Copy)]
 pub enum RowAt {
     ThisRow(Row),
     NoRow,
 }
 
-#[derive(Drop)]
+#[derive(Clone, Copy)]
 pub enum MemberAt {
     ThisMember(Member),
     NoMember,
 }
 
-#[derive(Drop)]
+#[derive(Clone, Copy)]
 pub enum PointAt {
     ThisPoint(Point),
     NoPoint,
 }
 
-#[derive(Drop)]
+#[derive(Clone, Copy)]
 pub enum TextAt {
     ThisText(Text),
     NoTextThere,

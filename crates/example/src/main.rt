@@ -1,4 +1,6 @@
 // The example of README.md: how a page engine calls the reader. Counts the members that end a tie in the file on standard input.
+#![tactic(auto)]
+
 use entries::bars::BAR_WORDS;
 use entries::members::MEMBER_WORDS;
 use entries::points::POINT_WORDS;

@@ -1,4 +1,6 @@
 // For a program in another language: a static library (rt staticlib export) of the reader, of the shelf alone (`shelf`) and of texts as UTF-8 (`titles`).
+#![tactic(auto)]
+
 ghost use Rattle.std.specs.Prelude.{◌≡◌};
 ghost use Rattle.std.proofs.lemmas.List.Edits.{sets};
 ghost use Rattle.score.specs.Reading.{reading};
@@ -52,13 +54,11 @@ pub extern "C" fn fungusleigh_read(
     texts: &mut [u32],
     said: &mut [u32],
 )
-    ensures* { λ _.
-        let before = reader.tables bars.old tracks.old rows.old members.old
-        points.old texts.old in
-        let after = reader.tables bars.new tracks.new rows.new members.new
-        points.new texts.new in
-        let result = reading «data».now before in
-        ⌜ (after ≡ result.tables) × (said.new ≡ sets said.old 0 (said_words result.answer)) ⌝ }
+    ensures {
+        let before = reader.tables bars.old tracks.old rows.old members.old points.old texts.old in
+        let after = reader.tables bars.new tracks.new rows.new members.new points.new texts.new in
+        let read = reading «data».now before in
+        (after ≡ read.tables) × (said.new ≡ sets said.old 0 (said_words read.answer)) }
 {
     let answer = reader::read(data, bars, tracks, rows, members, points, texts);
     let words = said_words(answer);

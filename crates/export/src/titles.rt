@@ -31,9 +31,9 @@ pub extern "C" fn fungusleigh_to_utf8(
     out: &mut [u8],
     said: &mut [usize],
 )
-    ensures* { λ _.
-        let result = to_utf8 «data».now (record { start = start; end = end }) out.old in
-        ⌜ (out.new ≡ result.buffer) × (said.new ≡ sets said.old 0 (coded_words result.coded)) ⌝ }
+    ensures {
+        let coding = to_utf8 «data».now (record { start = start; end = end }) out.old in
+        (out.new ≡ coding.buffer) × (said.new ≡ sets said.old 0 (coded_words coding.coded)) }
 {
     let coded = utf8::to_utf8(data, Range { start, end }, out);
     say(coded, said);
@@ -41,9 +41,9 @@ pub extern "C" fn fungusleigh_to_utf8(
 
 #[unsafe(no_mangle)]
 pub extern "C" fn fungusleigh_from_utf8(data: &[u8], out: &mut [u8], said: &mut [usize])
-    ensures* { λ _.
-        let result = from_utf8 «data».now out.old in
-        ⌜ (out.new ≡ result.buffer) × (said.new ≡ sets said.old 0 (coded_words result.coded)) ⌝ }
+    ensures {
+        let coding = from_utf8 «data».now out.old in
+        (out.new ≡ coding.buffer) × (said.new ≡ sets said.old 0 (coded_words coding.coded)) }
 {
     let coded = utf8::from_utf8(data, out);
     say(coded, said);

@@ -153,28 +153,28 @@ both_read {A = A} {X = X} p f s at n b e h = go (run p s at) refl (sym (run_bind
     go (stopped r) d g = absurd (clash (cc))
 
 -- what the field passes over is passed over in all
-pub stands_skips : {A B : Type 0} {s : List ℕ} {p : Prog A} {q : Prog B} {at from k n : ℕ}
+pub stands_skips : {A : Type 0} {s : List ℕ} {p : Prog A} {at : ℕ} {B : Type 0} {q : Prog B} {from k n : ℕ}
     → Stands s p at q from → Skips s k n p at → Skips s k n q from
 stands_skips itself h = h
 stands_skips (first f w) h = skips_first f (stands_skips w h)
 stands_skips (then q f e w) h = skips_after q _ _ _ f e (stands_skips w h)
 
 -- what the field keeps is kept in all
-pub stands_keeps : {A B : Type 0} {s : List ℕ} {p : Prog A} {q : Prog B} {at from : ℕ}
+pub stands_keeps : {A : Type 0} {s : List ℕ} {p : Prog A} {at : ℕ} {B : Type 0} {q : Prog B} {from : ℕ}
     → Stands s p at q from → (i : ℕ) → Kept p s at i → Kept q s from i
 stands_keeps itself i h = h
 stands_keeps (first f w) i h = keeps_first _ f _ _ i (stands_keeps w i h)
 stands_keeps (then q f e w) i h = keeps_after q _ _ _ i _ f e (stands_keeps w i h)
 
 -- and the sign that counts in the field does so in all
-pub stands_signs : {A B : Type 0} {s : List ℕ} {p : Prog A} {q : Prog B} {at from : ℕ}
+pub stands_signs : {A : Type 0} {s : List ℕ} {p : Prog A} {at : ℕ} {B : Type 0} {q : Prog B} {from : ℕ}
     → Stands s p at q from → (i : ℕ) → Signed p s at i → Signed q s from i
 stands_signs itself i h = h
 stands_signs (first f w) i h = signs_first _ f _ _ i (stands_signs w i h)
 stands_signs (then q f e w) i h = signs_after q _ _ _ i _ f e (stands_signs w i h)
 
 -- a field of a field
-pub stands_in : {A B C : Type 0} {s : List ℕ} {p : Prog A} {q : Prog B} {r : Prog C} {at m from : ℕ}
+pub stands_in : {A B : Type 0} {s : List ℕ} {p : Prog A} {q : Prog B} {at m : ℕ} {C : Type 0} {r : Prog C} {from : ℕ}
     → Stands s p at q m → Stands s q m r from → Stands s p at r from
 stands_in h itself = h
 stands_in h (first f w) = first f (stands_in h w)

@@ -43,7 +43,7 @@ next_number {at = at} (suc w) f h =
     rw (bind_bind u8 (λ b. bind (number w) (λ r. ret (b + 256 * r))) f)
     (next_byte _ (λ b.
     rw (bind_bind (number w) (λ r. ret (b + 256 * r)) f)
-    (next_number w _ (λ r. rw e at (h (b + 256 * r))))))
+    (next_number {at = at + 1} w _ (λ r. rw e at (h (b + 256 * r))))))
 
 pub next_skip : {A : Type 0} {s : List ℕ} {k n at : ℕ} (m : ℕ) (f : Unit → Prog A)
     → Skips s k n (f tt) (at + m) → Skips s k n (bind (skip m) f) at

@@ -1,10 +1,11 @@
 // The types that reading programs and the code share. The format itself stands in specs/.
+#![tactic(auto)]
 
 // No more bytes of a file are read.
 pub const LIMIT: usize = 16777216;
 
 // A part of the input, from start up to and not including end.
-#[derive(Drop)]
+#[derive(Clone, Copy)]
 pub struct Range {
     pub start: usize,
     pub end: usize,
@@ -14,7 +15,7 @@ pub struct Range {
 pub const NO_RANGE: Range = Range { start: 0, end: 0 };
 
 // The counts that have a limit.
-#[derive(Drop)]
+#[derive(Clone, Copy)]
 pub enum Counted {
     NoticeLines,
     Bars,
@@ -25,7 +26,7 @@ pub enum Counted {
 }
 
 // Why reading stopped.
-#[derive(Drop)]
+#[derive(Clone, Copy)]
 pub enum Stop {
     // the bytes end
     Ends,
@@ -41,7 +42,7 @@ pub enum Stop {
 }
 
 // Where reading goes on, or why it does not.
-#[derive(Drop)]
+#[derive(Clone, Copy)]
 pub enum Place {
     At(usize),
     Stopped(Stop),

@@ -1,4 +1,6 @@
 // What stands before the beats: the song, the headers and the tracks.
+#![tactic(auto)]
+
 ghost use Rattle.std.specs.Prelude.{◌≤◌};
 ghost use Rattle.format.specs.Place.{Reaches};
 ghost use Rattle.format.specs.Prog.{turns};
@@ -13,7 +15,7 @@ use score::Before;
 use song::info::Info;
 
 // All but the channel table.
-#[derive(Drop)]
+#[derive(Clone, Copy)]
 pub struct SongRead {
     pub version: u32,
     pub info: Info,
@@ -63,7 +65,7 @@ pub fn song_at(s: &[u8], from: Place, programs: &mut [[u8; 16]; 4]) -> SongRead
 }
 
 // After some headers: the time that the next inherits, what it is compared with, the losses, and where reading goes on.
-#[derive(Drop)]
+#[derive(Clone, Copy)]
 pub struct Headings {
     pub time: Time,
     pub before: Before,
@@ -153,7 +155,7 @@ pub fn headers(
 }
 
 // After some tracks: the losses, and where reading goes on.
-#[derive(Drop)]
+#[derive(Clone, Copy)]
 pub struct Tracked {
     pub losses: [u32; 17],
     pub next: Place,

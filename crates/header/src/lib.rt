@@ -1,4 +1,6 @@
 // Counts of bars and tracks, and bar headers.
+#![tactic(auto)]
+
 ghost use Rattle.std.specs.Prelude.{◌≡◌};
 ghost use Rattle.format.specs.Text.{text_in};
 ghost use Rattle.format.specs.Prog.{ret, when_bits, has};
@@ -11,25 +13,25 @@ use bin::{Byte, skip_at};
 use format::{Counted, NO_RANGE, Place, Range, Stop};
 use model::{Key, Mode, Time};
 
-#[derive(Drop)]
+#[derive(Clone, Copy)]
 pub struct Counts {
     pub bars: u32,
     pub tracks: u32,
 }
 
-#[derive(Drop)]
+#[derive(Clone, Copy)]
 pub struct CountsRead {
     pub counts: Counts,
     pub next: Place,
 }
 
-#[derive(Drop)]
+#[derive(Clone, Copy)]
 struct TimeRead {
     time: Time,
     next: Place,
 }
 
-#[derive(Drop)]
+#[derive(Clone, Copy)]
 struct KeyRead {
     key: Key,
     next: Place,
@@ -37,7 +39,7 @@ struct KeyRead {
 
 // What stands between a header's time and its tail: how often its repeat is played, its ending byte before v500, its
 // marker and its key.
-#[derive(Drop)]
+#[derive(Clone, Copy)]
 pub struct Marks {
     pub times: u8,
     pub ending: u8,
@@ -45,27 +47,27 @@ pub struct Marks {
     pub key: Key,
 }
 
-#[derive(Drop)]
+#[derive(Clone, Copy)]
 struct MarksRead {
     marks: Marks,
     next: Place,
 }
 
 // What a bar header ends with from v500 on.
-#[derive(Drop)]
+#[derive(Clone, Copy)]
 pub struct Tail {
     pub mask: u8,
     pub swing: bool,
 }
 
-#[derive(Drop)]
+#[derive(Clone, Copy)]
 struct TailRead {
     tail: Tail,
     next: Place,
 }
 
 // A bar header as read; the ending and its passes are 0 where there are none.
-#[derive(Drop)]
+#[derive(Clone, Copy)]
 pub struct Header {
     pub time: Time,
     pub key: Key,
@@ -79,7 +81,7 @@ pub struct Header {
     pub swing_lost: bool,
 }
 
-#[derive(Drop)]
+#[derive(Clone, Copy)]
 pub struct HeaderRead {
     pub header: Header,
     pub next: Place,

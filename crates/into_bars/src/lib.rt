@@ -1,4 +1,6 @@
 // Bars: what is made of a header, of those before it and of the directions; and what is set again later in their table.
+#![tactic(auto)]
+
 ghost use Rattle.std.specs.Prelude.{◌≡◌, [], ◌++◌, ◌+◌, ◌-◌, ◌<◌, ◌≤◌};
 ghost use Rattle.format.specs.Text.{pick};
 ghost use Rattle.model.specs.declared.Loss.TheVariants.{UnsupportedDirection};
@@ -261,7 +263,7 @@ pub fn key_at(bars: &[u32], bar: usize) -> Key
 // ---- headers, one after another
 
 // What the next header is added to, beside the table.
-#[derive(Drop)]
+#[derive(Clone, Copy)]
 pub struct Headed {
     pub before: Before,
     pub losses: [u32; 17],

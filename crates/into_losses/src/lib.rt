@@ -1,5 +1,7 @@
 // Losses: each report adds one. Those of reading a beat count whether it is kept or not, those of building its row
 // only where it is.
+#![tactic(auto)]
+
 ghost use Rattle.std.specs.Prelude.{◌≡◌, true, List, ◌++◌, ℕ, replicate};
 ghost use Rattle.model.specs.declared.Loss.TheVariants.{TripletFeel, UnsupportedDirection};
 ghost use Rattle.format.specs.Text.{pick};

@@ -2,7 +2,7 @@
 use Prim.Native.Nat.{ℕ, ◌+◌, ◌*◌, ◌<◌}
 use native.Mathlib.Omega.{arith}
 use native.Mathlib.Numerals.{add-one}
-use mathlib.Core.Path.{◌≡◌, refl, ◌∙◌}
+use mathlib.Core.Path.{◌≡◌, refl, sym, ap, ◌∙◌}
 use mathlib.Core.Bool.{Bool, true, false}
 use mathlib.Core.List.{List, [], ◌∷◌, map}
 use borrow.Author.Tests.{ne_eqb}
@@ -75,7 +75,9 @@ module _ (s : List ℕ) (v : ℕ) (notes : List ℕ) (board : Fretboard) (flat :
   unfolding chord_in member_by
   all_fingered [] = refl
   all_fingered (x ∷ []) = refl
-  all_fingered (x ∷ y ∷ l) = rw (ne_eqb (length (x ∷ y ∷ l)) 1 (λ e. omega arith)) (each (x ∷ y ∷ l))
+  all_fingered (x ∷ y ∷ l) =
+      each (x ∷ y ∷ l)
+      ∙ ap (λ (only : Bool). members_by only (x ∷ y ∷ l)) (sym (ne_eqb (length (x ∷ y ∷ l)) 1 (λ e. omega arith)))
 
   pub next_member : (only : Bool) (chord t : List ℕ) (n i : ℕ) {m stored : Member} {now : List ℕ} → i < length chord
       → m ≡ struck_member (get_or chord i 0)

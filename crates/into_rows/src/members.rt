@@ -19,7 +19,7 @@ use note::places::Notes;
 use score::Fretboard;
 
 // What a row holds of its members: how many, the key of the first, 0 where there is none, and the finger of an only one.
-#[derive(Drop)]
+#[derive(Clone, Copy)]
 pub struct Company {
     pub count: u32,
     pub key: u8,

@@ -14,7 +14,7 @@ use model::Height;
 use note::bend::Bend;
 
 // What a row holds of its curve: how many points, and its height.
-#[derive(Drop)]
+#[derive(Clone, Copy)]
 pub struct Bent {
     pub count: u32,
     pub height: Height,

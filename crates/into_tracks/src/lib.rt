@@ -1,4 +1,6 @@
 // Tracks: the entry of each, and what is remembered of it.
+#![tactic(auto)]
+
 ghost use Rattle.std.specs.Prelude.{◌≡◌, []};
 ghost use Rattle.score.specs.Losses.{track_losses};
 ghost use Rattle.score.specs.Page.{track_entry, add_track};

@@ -1,5 +1,7 @@
 // Lists the file on standard input, as far as its first 32,768 bytes: one line of six numbers, which are the outcome, the bytes
 // used, and the bars, tracks, rows and members kept. Of a refusal all but the first are 0.
+#![tactic(auto)]
+
 use entries::bars::BAR_WORDS;
 use entries::members::MEMBER_WORDS;
 use entries::points::POINT_WORDS;

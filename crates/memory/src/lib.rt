@@ -1,11 +1,13 @@
 // The frets that a voice remembers, lent: document 01, "The fret memory: first by value, then a thin form that changes one lent
 // memory, as `&mut VoiceState` does". What a reference to a struct asks for is a proof by hand, so the two functions that have one do
 // nothing else: `with_fret` makes the change, and whoever has no memory lent to it calls `remembered`.
+#![tactic(auto)]
+
 ghost use Rattle.std.specs.Prelude.{◌≡◌};
 ghost use Rattle.memory.specs.Change.{changed};
 
 // By string, in file order, each as its word in a voice.
-#[derive(Drop)]
+#[derive(Clone, Copy)]
 pub struct VoiceState {
     pub frets: [u32; 7],
 }

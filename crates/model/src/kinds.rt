@@ -22,6 +22,7 @@ pub fn ending_place_word(x: EndingPlace) -> u32
     }
 }
 
+#[tactic(auto, unfolding(crate::specs::Kinds::ending_place_of))]
 pub fn ending_place_of(word: u32) -> EndingPlace
     ensures { result ≡ ending_place_of word }
 {
@@ -52,6 +53,7 @@ pub fn direction_word(x: Direction) -> u32
     }
 }
 
+#[tactic(auto, unfolding(crate::specs::Kinds::direction_of))]
 pub fn direction_of(word: u32) -> Direction
     ensures { result ≡ direction_of word }
 {
@@ -80,6 +82,7 @@ pub fn clef_word(x: Clef) -> u32
     }
 }
 
+#[tactic(auto, unfolding(crate::specs::Kinds::clef_of))]
 pub fn clef_of(word: u32) -> Clef
     ensures { result ≡ clef_of word }
 {
@@ -99,6 +102,7 @@ pub fn row_kind_word(x: RowKind) -> u32
     }
 }
 
+#[tactic(auto, unfolding(crate::specs::Kinds::row_kind_of))]
 pub fn row_kind_of(word: u32) -> RowKind
     ensures { result ≡ row_kind_of word }
 {
@@ -122,6 +126,7 @@ pub fn duration_word(x: Duration) -> u32
     }
 }
 
+#[tactic(auto, unfolding(crate::specs::Kinds::duration_of))]
 pub fn duration_of(word: u32) -> Duration
     ensures { result ≡ duration_of word }
 {
@@ -149,6 +154,7 @@ pub fn technique_word(x: Technique) -> u32
     }
 }
 
+#[tactic(auto, unfolding(crate::specs::Kinds::technique_of))]
 pub fn technique_of(word: u32) -> Technique
     ensures { result ≡ technique_of word }
 {
@@ -172,6 +178,7 @@ pub fn technique_text_word(x: TechniqueText) -> u32
     }
 }
 
+#[tactic(auto, unfolding(crate::specs::Kinds::technique_text_of))]
 pub fn technique_text_of(word: u32) -> TechniqueText
     ensures { result ≡ technique_text_of word }
 {
@@ -199,6 +206,7 @@ pub fn dynamic_word(x: Dynamic) -> u32
     }
 }
 
+#[tactic(auto, unfolding(crate::specs::Kinds::dynamic_of))]
 pub fn dynamic_of(word: u32) -> Dynamic
     ensures { result ≡ dynamic_of word }
 {
@@ -238,6 +246,7 @@ pub fn articulation_word(x: Articulation) -> u32
     }
 }
 
+#[tactic(auto, unfolding(crate::specs::Kinds::articulation_of))]
 pub fn articulation_of(word: u32) -> Articulation
     ensures { result ≡ articulation_of word }
 {
@@ -271,6 +280,7 @@ pub fn arpeggio_word(x: Arpeggio) -> u32
     }
 }
 
+#[tactic(auto, unfolding(crate::specs::Kinds::arpeggio_of))]
 pub fn arpeggio_of(word: u32) -> Arpeggio
     ensures { result ≡ arpeggio_of word }
 {
@@ -290,6 +300,7 @@ pub fn note_head_word(x: NoteHead) -> u32
     }
 }
 
+#[tactic(auto, unfolding(crate::specs::Kinds::note_head_of))]
 pub fn note_head_of(word: u32) -> NoteHead
     ensures { result ≡ note_head_of word }
 {
@@ -311,6 +322,7 @@ pub fn ottava_word(x: Ottava) -> u32
     }
 }
 
+#[tactic(auto, unfolding(crate::specs::Kinds::ottava_of))]
 pub fn ottava_of(word: u32) -> Ottava
     ensures { result ≡ ottava_of word }
 {
@@ -336,6 +348,7 @@ pub fn finger_word(x: Finger) -> u32
     }
 }
 
+#[tactic(auto, unfolding(crate::specs::Kinds::finger_of))]
 pub fn finger_of(word: u32) -> Finger
     ensures { result ≡ finger_of word }
 {

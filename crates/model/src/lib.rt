@@ -1,5 +1,7 @@
 // What a page engine reads: the entries of the six lent tables and the answer of a reading, as values.
 // What may be absent is a case of its own. docs/TABLES.md has the tables word by word.
+#![tactic(auto)]
+
 use format::{Counted, Range};
 
 pub mod answers; // the answer of a reading, case by case; losses
@@ -8,40 +10,40 @@ pub mod marks; // articulations in the order added
 
 // ---- bars
 
-#[derive(Drop)]
+#[derive(Clone, Copy)]
 pub struct Time {
     pub numerator: u8,
     pub denominator: u8,
 }
 
-#[derive(Drop)]
+#[derive(Clone, Copy)]
 pub enum Mode {
     Major,
     Minor,
 }
 
 // Sharps above 0, flats below.
-#[derive(Drop)]
+#[derive(Clone, Copy)]
 pub enum Key {
     NoKey,
     Fifths(i8, Mode),
 }
 
-#[derive(Drop)]
+#[derive(Clone, Copy)]
 pub enum Ending {
     NoEnding,
     Nth(u8),
 }
 
 // The passes of an ending that serves several: bit n of the mask is pass n + 1.
-#[derive(Drop)]
+#[derive(Clone, Copy)]
 pub enum Passes {
     NoPasses,
     Mask(u8),
 }
 
 // Where a bar stands among neighbours of the same ending number.
-#[derive(Drop)]
+#[derive(Clone, Copy)]
 pub enum EndingPlace {
     NoPlace,
     Begin,
@@ -50,7 +52,7 @@ pub enum EndingPlace {
     BeginEnd,
 }
 
-#[derive(Drop)]
+#[derive(Clone, Copy)]
 pub enum Direction {
     NoDirection,
     Coda,
@@ -65,28 +67,28 @@ pub enum Direction {
     ToCoda,
 }
 
-#[derive(Drop)]
+#[derive(Clone, Copy)]
 pub enum Tempo {
     NoTempo,
     Bpm(u16),
 }
 
 // Whether the time or the key is another than before.
-#[derive(Drop)]
+#[derive(Clone, Copy)]
 pub struct Changes {
     pub time: bool,
     pub key: bool,
 }
 
 // A double bar stands only where no repeat ends.
-#[derive(Drop)]
+#[derive(Clone, Copy)]
 pub struct Repeats {
     pub start: bool,
     pub end: bool,
     pub double: bool,
 }
 
-#[derive(Drop)]
+#[derive(Clone, Copy)]
 pub struct Bar {
     pub time: Time,
     pub key: Key,
@@ -103,7 +105,7 @@ pub struct Bar {
 // ---- tracks
 
 // The keys of the open strings in the file's order; those past `strings` are 0.
-#[derive(Drop)]
+#[derive(Clone, Copy)]
 pub struct Tunings {
     pub strings: u8,
     pub first: u8,
@@ -115,20 +117,20 @@ pub struct Tunings {
     pub seventh: u8,
 }
 
-#[derive(Drop)]
+#[derive(Clone, Copy)]
 pub enum Clef {
     Treble,
     Bass,
     Percussion,
 }
 
-#[derive(Drop)]
+#[derive(Clone, Copy)]
 pub enum Program {
     NoProgram,
     Midi(u8),
 }
 
-#[derive(Drop)]
+#[derive(Clone, Copy)]
 pub struct Track {
     pub name: Range,
     pub tunings: Tunings,
@@ -142,20 +144,20 @@ pub struct Track {
 
 // ---- rows
 
-#[derive(Drop)]
+#[derive(Clone, Copy)]
 pub struct RowPlace {
     pub bar: u32,
     pub track: u32,
     pub voice: u32,
 }
 
-#[derive(Drop)]
+#[derive(Clone, Copy)]
 pub enum RowKind {
     Grace,
     Beat,
 }
 
-#[derive(Drop)]
+#[derive(Clone, Copy)]
 pub enum Duration {
     Whole,
     Half,
@@ -167,13 +169,13 @@ pub enum Duration {
 }
 
 // So many notes in the time of so many.
-#[derive(Drop)]
+#[derive(Clone, Copy)]
 pub enum Tuplet {
     NoTuplet,
     Ratio(u8, u8),
 }
 
-#[derive(Drop)]
+#[derive(Clone, Copy)]
 pub struct NoteValue {
     pub duration: Duration,
     pub dot: bool,
@@ -181,13 +183,13 @@ pub struct NoteValue {
 }
 
 // Entries of another table that belong to a row: 0 of them at place 0 where it has none.
-#[derive(Drop)]
+#[derive(Clone, Copy)]
 pub struct Span {
     pub first: u32,
     pub count: u32,
 }
 
-#[derive(Drop)]
+#[derive(Clone, Copy)]
 pub enum Technique {
     NoTechnique,
     Bend,
@@ -197,7 +199,7 @@ pub enum Technique {
 }
 
 // The hammer mark stands only until hammers are resolved to pull-offs: no row of a finished table has it.
-#[derive(Drop)]
+#[derive(Clone, Copy)]
 pub enum TechniqueText {
     NoText,
     HammerMark,
@@ -205,13 +207,13 @@ pub enum TechniqueText {
     LetRing,
 }
 
-#[derive(Drop)]
+#[derive(Clone, Copy)]
 pub enum Height {
     NoHeight,
     Peak(Cents),
 }
 
-#[derive(Drop)]
+#[derive(Clone, Copy)]
 pub struct Playing {
     pub text: TechniqueText,
     pub technique: Technique,
@@ -219,7 +221,7 @@ pub struct Playing {
     pub height: Height,
 }
 
-#[derive(Drop)]
+#[derive(Clone, Copy)]
 pub enum Dynamic {
     NoDynamic,
     Ppp,
@@ -232,7 +234,7 @@ pub enum Dynamic {
     Fff,
 }
 
-#[derive(Drop)]
+#[derive(Clone, Copy)]
 pub enum Articulation {
     Marcato,
     Accent,
@@ -253,32 +255,32 @@ pub enum Articulation {
 }
 
 // Articulations in the order added, none twice: a hexadecimal number of `count` digits, a digit for each, read from the left.
-#[derive(Drop)]
+#[derive(Clone, Copy)]
 pub struct Articulations {
     pub count: u8,
     pub digits: u64,
 }
 
-#[derive(Drop)]
+#[derive(Clone, Copy)]
 pub enum MarkAt {
     ThisMark(Articulation),
     NoMark,
 }
 
-#[derive(Drop)]
+#[derive(Clone, Copy)]
 pub enum Arpeggio {
     NoArpeggio,
     Up,
     Down,
 }
 
-#[derive(Drop)]
+#[derive(Clone, Copy)]
 pub enum NoteHead {
     Normal,
     Cross,
 }
 
-#[derive(Drop)]
+#[derive(Clone, Copy)]
 pub struct Expression {
     pub dynamic: Dynamic,
     pub articulations: Articulations,
@@ -286,7 +288,7 @@ pub struct Expression {
     pub head: NoteHead,
 }
 
-#[derive(Drop)]
+#[derive(Clone, Copy)]
 pub enum Ottava {
     NoOttava,
     Va8,
@@ -296,13 +298,13 @@ pub enum Ottava {
 }
 
 // What starts at a row, and whether one ends there.
-#[derive(Drop)]
+#[derive(Clone, Copy)]
 pub struct OttavaMarks {
     pub start: Ottava,
     pub end: bool,
 }
 
-#[derive(Drop)]
+#[derive(Clone, Copy)]
 pub enum Finger {
     NoFinger,
     Thumb,
@@ -312,7 +314,7 @@ pub enum Finger {
     Little,
 }
 
-#[derive(Drop)]
+#[derive(Clone, Copy)]
 pub struct Row {
     pub place: RowPlace,
     pub kind: RowKind,
@@ -332,19 +334,19 @@ pub struct Row {
 // ---- members, curve points, texts
 
 // String 1 is the lowest.
-#[derive(Drop)]
+#[derive(Clone, Copy)]
 pub enum TabPosition {
     OffTablature,
     Fretted(u8, u8),
 }
 
-#[derive(Drop)]
+#[derive(Clone, Copy)]
 pub struct Ties {
     pub end: bool,
     pub start: bool,
 }
 
-#[derive(Drop)]
+#[derive(Clone, Copy)]
 pub struct Member {
     pub key: u8,
     pub flat: bool,
@@ -355,20 +357,20 @@ pub struct Member {
 }
 
 // A place on a bend curve, 0 to 1,000.
-#[derive(Drop)]
+#[derive(Clone, Copy)]
 pub struct PerMille(pub u16);
 
 // A height above or below the fretted pitch.
-#[derive(Drop)]
+#[derive(Clone, Copy)]
 pub struct Cents(pub i16);
 
-#[derive(Drop)]
+#[derive(Clone, Copy)]
 pub struct Point {
     pub position: PerMille,
     pub height: Cents,
 }
 
-#[derive(Drop)]
+#[derive(Clone, Copy)]
 pub struct Text {
     pub bar: u32,
     pub track: u32,
@@ -377,7 +379,7 @@ pub struct Text {
 
 // ---- the answer of a reading
 
-#[derive(Drop)]
+#[derive(Clone, Copy)]
 pub enum Outcome {
     Read,
     Truncated,
@@ -390,7 +392,7 @@ pub enum Outcome {
 }
 
 // Numbers of entries of the six tables.
-#[derive(Drop)]
+#[derive(Clone, Copy)]
 pub struct Sizes {
     pub bars: u32,
     pub tracks: u32,
@@ -400,26 +402,26 @@ pub struct Sizes {
     pub texts: u32,
 }
 
-#[derive(Drop)]
+#[derive(Clone, Copy)]
 pub enum LyricTrack {
     NoLyricTrack,
     Under(u32),
 }
 
-#[derive(Drop)]
+#[derive(Clone, Copy)]
 pub struct LyricLine {
     pub start: u32,
     pub text: Range,
 }
 
-#[derive(Drop)]
+#[derive(Clone, Copy)]
 pub struct Lyrics {
     pub track: LyricTrack,
     pub lines: [LyricLine; 5],
 }
 
 // `used` is the number of bytes that the reading used.
-#[derive(Drop)]
+#[derive(Clone, Copy)]
 pub struct Song {
     pub used: usize,
     pub version: u32,
@@ -434,7 +436,7 @@ pub struct Song {
 
 // What a reading reports and does not keep. A loss's code in the Rust is "gp." and the name of its count here, with dashes:
 // `drum_kit` counts the reports of "gp.drum-kit". The counts stand in byte order of the codes.
-#[derive(Drop)]
+#[derive(Clone, Copy)]
 pub enum Loss {
     DrumKit,
     HarmonicType,
@@ -455,7 +457,7 @@ pub enum Loss {
     UnsupportedWhammy,
 }
 
-#[derive(Drop)]
+#[derive(Clone, Copy)]
 pub struct Losses {
     pub drum_kit: u32,
     pub harmonic_type: u32,
@@ -477,7 +479,7 @@ pub struct Losses {
 }
 
 // `counts` are the entries kept, `rooms` those that the tables need room for.
-#[derive(Drop)]
+#[derive(Clone, Copy)]
 pub struct Answer {
     pub outcome: Outcome,
     pub song: Song,

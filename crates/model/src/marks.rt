@@ -6,7 +6,7 @@ ghost use Rattle.model.specs.Marks.{added_in, byte_counted, no_marks, has_digit,
 use crate::{Articulation, Articulations, MarkAt, kinds};
 
 // Articulations while they are added. Two whole words: a struct with padding is copied in pieces (docs/PROVING.md, Speed).
-#[derive(Drop)]
+#[derive(Clone, Copy)]
 pub struct Marks {
     pub count: u64,
     pub digits: u64,
@@ -73,6 +73,7 @@ pub fn added(m: Marks, a: Articulation) -> Marks
 }
 
 // As a row holds them: there are sixteen at most, so that a byte counts them.
+#[tactic(auto, unfolding(crate::specs::Marks::added_in, crate::specs::Marks::byte_counted))]
 pub fn listed(m: Marks) -> Articulations
     ensures { result ≡ byte_counted (added_in m) }
 {

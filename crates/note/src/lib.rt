@@ -1,4 +1,6 @@
 // A note: its string is known by the beat. It is read into words that are lent.
+#![tactic(auto)]
+
 ghost use Rattle.std.specs.Prelude.{◌+◌, ◌≤◌};
 ghost use Rattle.format.specs.Padded.{Near};
 ghost use Rattle.note.specs.Note as format;
@@ -20,21 +22,21 @@ use places::{Notes, put, put_if};
 // The first byte that stands for a number below zero.
 pub const NEGATIVE_BYTE: u8 = 0x80;
 
-#[derive(Drop)]
+#[derive(Clone, Copy)]
 pub enum LeftHand {
     NoFinger,
     Finger(u8),
     Beyond,
 }
 
-#[derive(Drop)]
+#[derive(Clone, Copy)]
 pub struct Hands {
     pub left: LeftHand,
     pub right_lost: bool,
 }
 
 // A note but for its bend, as the format's definitions have it.
-#[derive(Drop)]
+#[derive(Clone, Copy)]
 pub struct NoteRead {
     pub fret: u8,
     pub tie: bool,

@@ -11,7 +11,7 @@ use crate::places::{Notes, put, put_if, store};
 use curve::slide::SlideEffect;
 use format::Place;
 
-#[derive(Drop)]
+#[derive(Clone, Copy)]
 pub struct Grace {
     pub fret: u8,
     pub transition: u8,
@@ -19,26 +19,26 @@ pub struct Grace {
     pub on_beat: bool,
 }
 
-#[derive(Drop)]
+#[derive(Clone, Copy)]
 pub enum GraceNote {
     NoGrace,
     Before(Grace),
 }
 
-#[derive(Drop)]
+#[derive(Clone, Copy)]
 pub enum Tremolo {
     NoTremolo,
     Strokes(u8),
 }
 
-#[derive(Drop)]
+#[derive(Clone, Copy)]
 pub struct Harmonic {
     pub given: bool,
     pub lost: bool,
 }
 
 // The effects of a note but for its bend, as the format's definitions have them.
-#[derive(Drop)]
+#[derive(Clone, Copy)]
 pub struct NoteEffects {
     pub grace: GraceNote,
     pub tremolo: Tremolo,
@@ -56,7 +56,7 @@ pub struct NoteEffects {
 // The bend's place and count are stored where there is one. It is read from place to place: a count of points may be refused.
 fn bend_at(s: &[u8], at: usize, first: u8, w: &mut Notes, o: usize) -> Place
     requires { o ≤ 126 }
-    ensures { meaning.FillsTo (format.note_bend first) s.now at (o + meaning.BEND-START) w.old
+    ensures { meaning.FillsTo (format.note_bend first) s.now at (o + meaning.BEND_START) w.old
         w.new (bend_in s.now (meaning.bend_by first w.new o)) result }
 {
     let from = bin::ahead::reached(s, at);
@@ -72,7 +72,7 @@ fn bend_at(s: &[u8], at: usize, first: u8, w: &mut Notes, o: usize) -> Place
 
 fn grace_at(s: &[u8], at: usize, v: u32, first: u8, w: &mut Notes, o: usize) -> usize
     requires { Near 5 at × (o ≤ 126) }
-    ensures { meaning.Fills (format.grace v first) 5 s.now at (o + meaning.GRACE-FRET) w.old
+    ensures { meaning.Fills (format.grace v first) 5 s.now at (o + meaning.GRACE_FRET) w.old
         w.new (meaning.grace_in first w.new o) result }
 {
     if first & 0x10 == 0 {
@@ -114,7 +114,7 @@ fn harmonic_at(s: &[u8], at: usize, v: u32, more: u8, w: &mut Notes, o: usize) -
 
 fn marks_at(s: &[u8], at: usize, v: u32, first: u8, more: u8, w: &mut Notes, o: usize) -> usize
     requires { Near 13 at × (o ≤ 126) }
-    ensures { meaning.Fills (format.marks v first more) 13 s.now at (o + meaning.GRACE-FRET) w.old
+    ensures { meaning.Fills (format.marks v first more) 13 s.now at (o + meaning.GRACE_FRET) w.old
         w.new (meaning.marks_by v first more w.new o) result }
 {
     let at = grace_at(s, at, v, first, w, o);

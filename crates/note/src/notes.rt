@@ -13,6 +13,7 @@ use crate::places::{Notes, put, put_if, start_of};
 use format::Place;
 
 // The first of the strings of a set of bits, from bit 6 down; 7 where there is none.
+#[tactic(auto, unfolding(crate::specs::Words::first_string))]
 pub fn first_string(mask: u32) -> usize
     ensures { result ≡ meaning.first_string mask }
 {
@@ -20,6 +21,7 @@ pub fn first_string(mask: u32) -> usize
 }
 
 // The strings after a string.
+#[tactic(auto, unfolding(crate::specs::Words::other_strings))]
 pub fn other_strings(mask: u32, i: usize) -> u32
     ensures { result ≡ meaning.other_strings mask i }
 {
@@ -78,7 +80,7 @@ pub fn read_notes(s: &[u8], from: usize, v: u32, strings: u8, w: &mut Notes) -> 
 
 // ---- plain notes are hopped over, where nothing of them is kept
 
-#[derive(Drop)]
+#[derive(Clone, Copy)]
 pub enum Hop {
     To(usize),
     No,

@@ -12,8 +12,8 @@ use Rattle.front.specs.declared.SongRead.{SongRead}
 use Rattle.reader.specs.Passed.{Passes}
 use Rattle.reader.specs.Answered.{tables, answered}
 
-abbrev pub result : Answer → (bars tracks rows members points texts : List ℕ) → Result
-result answer bars tracks rows members points texts = record { answer = answer; tables = tables bars tracks rows members points texts }
+abbrev pub result_of : Answer → (bars tracks rows members points texts : List ℕ) → Result
+result_of answer bars tracks rows members points texts = record { answer = answer; tables = tables bars tracks rows members points texts }
 
 -- a pass that counts
 pub record FirstPass (s : List ℕ) (song : SongRead) (tally : Tally) (next : Place) : Type 0 where

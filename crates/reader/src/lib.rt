@@ -1,9 +1,11 @@
 // The reader of Guitar Pro 3, 4 and 5 files: a file and six lent tables of words, an answer, and the tables filled.
+#![tactic(auto)]
+
 ghost use Rattle.std.specs.Prelude.{◌≡◌};
 ghost use Rattle.format.specs.Verdict.{up_to};
 ghost use Rattle.theorems.specs.Promise.{Promise};
 ghost use Rattle.reader.specs.Answered.{tables};
-ghost use Rattle.reader.specs.Result.{result, FirstPass, Fills};
+ghost use Rattle.reader.specs.Result.{result_of, FirstPass, Fills};
 
 use format::{LIMIT, Place};
 use model::{Answer, Outcome};
@@ -17,7 +19,7 @@ const OWN: usize = 4200;
 
 // The first n bytes, or all.
 fn up_to(data: &[u8], n: usize) -> &[u8]
-    ensures* { λ r. ⌜ r.now ≡ up_to n «data».now ⌝ }
+    ensures { result.now ≡ up_to n «data».now }
 {
     if n < data.len() {
         return &data[..n];
@@ -27,7 +29,7 @@ fn up_to(data: &[u8], n: usize) -> &[u8]
 
 // A pass that only counts: whether the file is read, and the rooms that it needs.
 fn first_pass(s: &[u8]) -> Passed
-    ensures* { λ r. ⌜ FirstPass s.now r.song r.tally r.next ⌝ }
+    ensures { FirstPass s.now result.song result.tally result.next }
 {
     let mut bars = [0u32; 1];
     let mut tracks = [0u32; 1];
@@ -59,12 +61,10 @@ fn fill(
     points: &mut [u32],
     texts: &mut [u32],
 ) -> Answer
-    ensures* { λ r.
-        let before = tables bars.old tracks.old rows.old members.old
-        points.old texts.old in
-        let after = tables bars.new tracks.new rows.new members.new
-        points.new texts.new in
-        ⌜ Fills s.now before after r ⌝ }
+    ensures {
+        let before = tables bars.old tracks.old rows.old members.old points.old texts.old in
+        let after = tables bars.new tracks.new rows.new members.new points.new texts.new in
+        Fills s.now before after result }
 {
     let mut parts = [0u32; OWN];
     let passed = pass::pass(
@@ -87,12 +87,10 @@ pub fn read(
     points: &mut [u32],
     texts: &mut [u32],
 ) -> Answer
-    ensures* { λ r.
-        let before = tables bars.old tracks.old rows.old members.old
-        points.old texts.old in
-        let after = result r bars.new tracks.new rows.new members.new
-        points.new texts.new in
-        ⌜ Promise «data».now before after ⌝ }
+    ensures {
+        let before = tables bars.old tracks.old rows.old members.old points.old texts.old in
+        let after = result_of result bars.new tracks.new rows.new members.new points.new texts.new in
+        Promise «data».now before after }
 {
     let s = up_to(data, LIMIT);
     let first = first_pass(s);

@@ -9,7 +9,7 @@ use front::SongRead;
 use model::{Key, Mode, Time};
 use score::{Before, KeptCounts, Tally};
 
-#[derive(Drop)]
+#[derive(Clone, Copy)]
 pub struct Passed {
     pub song: SongRead,
     pub tally: Tally,

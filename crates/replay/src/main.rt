@@ -1,5 +1,7 @@
 // Reads every input of the list on standard input, and holds the answer and the dump to what the list says of it (tests/README.md
 // has the list's form). A line names each input that differs, and in what; the last line counts them.
+#![tactic(auto)]
+
 use entries::bars::BAR_WORDS;
 use entries::members::MEMBER_WORDS;
 use entries::points::POINT_WORDS;
@@ -22,7 +24,7 @@ const FILL: u8 = 120;
 const STDERR: i32 = 2;
 
 // How many records were replayed, how many of them differ, and where the list goes on.
-#[derive(Drop)]
+#[derive(Clone, Copy)]
 struct Replayed {
     number: u32,
     differ: u32,
@@ -30,7 +32,7 @@ struct Replayed {
 }
 
 // In how many words a record differs, and where the list goes on.
-#[derive(Drop)]
+#[derive(Clone, Copy)]
 struct Compared {
     differ: u32,
     next: Place,

@@ -1,38 +1,40 @@
 // The whole file as one program of reads, and what is made of what was read. It stands in specs/; no code but the types that
 // the definitions and a reader share.
+#![tactic(auto)]
+
 use model::{Key, Ottava, Span};
 use track::Strings;
 
 // ---- what is remembered of a track
 
 // The last fret of a string.
-#[derive(Drop)]
+#[derive(Clone, Copy)]
 pub enum LastFret {
     NoFret,
     Fret(u8),
 }
 
-#[derive(Drop)]
+#[derive(Clone, Copy)]
 pub struct Remembered {
     pub fret: LastFret,
 }
 
 // A row with the hammer mark, which the next row of its voice may turn to a pull-off: its number and its first key.
-#[derive(Drop)]
+#[derive(Clone, Copy)]
 pub enum Hammer {
     NoHammer,
     Waits(u32, u8),
 }
 
 // An ottava that the next row of its voice may carry on: the number of the last row under it, and its kind.
-#[derive(Drop)]
+#[derive(Clone, Copy)]
 pub enum OttavaRun {
     NoRun,
     Over(u32, Ottava),
 }
 
 // `last` are the members of the row of the voice's last kept beat.
-#[derive(Drop)]
+#[derive(Clone, Copy)]
 pub struct Voice {
     pub frets: [Remembered; 7],
     pub hammer: Hammer,
@@ -41,7 +43,7 @@ pub struct Voice {
 }
 
 // What the notes of a track are played on.
-#[derive(Drop)]
+#[derive(Clone, Copy)]
 pub struct Fretboard {
     pub strings: Strings,
     pub capo: u8,
@@ -50,7 +52,7 @@ pub struct Fretboard {
 }
 
 // One running dynamic for both voices.
-#[derive(Drop)]
+#[derive(Clone, Copy)]
 pub struct Part {
     pub board: Fretboard,
     pub running: u8,
@@ -61,14 +63,14 @@ pub struct Part {
 // ---- what is counted on the way
 
 // After a bar's header: the last key read in any bar so far, and the bar's ending, 0 for none.
-#[derive(Drop)]
+#[derive(Clone, Copy)]
 pub struct Before {
     pub key: Key,
     pub ending: u8,
 }
 
 // Rows, members and curve points kept.
-#[derive(Drop)]
+#[derive(Clone, Copy)]
 pub struct KeptCounts {
     pub rows: u32,
     pub members: u32,
@@ -76,7 +78,7 @@ pub struct KeptCounts {
 }
 
 // What is kept, texts too; the rooms needed of points and texts; whether flats are preferred in the bar; the seventeen losses.
-#[derive(Drop)]
+#[derive(Clone, Copy)]
 pub struct Tally {
     pub kept: KeptCounts,
     pub texts: u32,

@@ -1,5 +1,7 @@
 // Shows the file on standard input, of at most 4 MiB, as a file browser does: one line, which has the outcome, of a count that is
 // refused which it is, its value and its offset, and the version, title, composer, bars and tracks, all 0 where the file is refused.
+#![tactic(auto)]
+
 use shelves::view::WORDS;
 use show::input::Input;
 

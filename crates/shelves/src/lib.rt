@@ -1,4 +1,6 @@
 // The shelf: title, composer, version, bars and tracks of a file, by a reading that ends right after its counts (document 02, c).
+#![tactic(auto)]
+
 ghost use Rattle.std.specs.Prelude.{◌≡◌};
 ghost use Rattle.shelves.specs.Shelf.{shelving};
 

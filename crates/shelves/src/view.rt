@@ -7,7 +7,7 @@ use format::{NO_RANGE, Range};
 use front::SongRead;
 use model::{Outcome, answers};
 
-#[derive(Drop)]
+#[derive(Clone, Copy)]
 pub struct Shelf {
     pub outcome: Outcome,
     pub version: u32,

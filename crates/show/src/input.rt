@@ -1,7 +1,7 @@
 // Standard input, with a failed read told from the end.
 const STDIN: i32 = 0;
 
-#[derive(Drop)]
+#[derive(Clone, Copy)]
 pub enum Input {
     // so many bytes: the whole input, or as many as there is room for
     Bytes(usize),

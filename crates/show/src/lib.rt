@@ -1,5 +1,7 @@
 // What programs show of an answer and its tables: the dump, a line for each entry. The forms of its lines name words of the
 // tables by the numbers that docs/TABLES.md has.
+#![tactic(auto)]
+
 use form::PAGE;
 use loads::Table;
 use model::{Answer, Losses, LyricLine, LyricTrack, Outcome, Sizes, Song, answers, kinds};
@@ -10,7 +12,7 @@ mod loads;
 pub mod record;
 
 // How much text a page holds, and what became of the text before it: written to standard output, or digested by FNV-1a.
-#[derive(Drop)]
+#[derive(Clone, Copy)]
 pub struct Sink {
     pub at: usize,
     pub prints: bool,

@@ -2,7 +2,7 @@
 use entries::rows::ROW_WORDS;
 use entries::{BarAt, MemberAt, PointAt, RowAt, TextAt, TrackAt};
 
-#[derive(Drop)]
+#[derive(Clone, Copy)]
 pub enum Table {
     Bars,
     Tracks,

@@ -20,7 +20,7 @@ const LOSSES: usize = 19;
 const DIGEST: usize = 36;
 
 // Where the input of a record starts and ends.
-#[derive(Drop)]
+#[derive(Clone, Copy)]
 pub enum Body {
     Within(usize, usize),
     CutOff,

@@ -3,6 +3,8 @@
 // be "no room" with all six rooms, and no word changed; else it must be the list's, with the entries of the first reading, and no
 // word changed past those that it counts. Before each reading the tables hold other words. A line for each file, and before it
 // one for each of the first readings that fail. tools/sizes-list takes the files out of the fixed list.
+#![tactic(auto)]
+
 use entries::bars::BAR_WORDS;
 use entries::members::MEMBER_WORDS;
 use entries::points::POINT_WORDS;
@@ -35,7 +37,7 @@ const NAMED: u32 = 4;
 const STDERR: i32 = 2;
 
 // How many entries, by what is needed.
-#[derive(Drop)]
+#[derive(Clone, Copy)]
 enum Entries {
     OneLess,
     Needed,
@@ -43,14 +45,14 @@ enum Entries {
 }
 
 // Readings, and those that failed.
-#[derive(Drop)]
+#[derive(Clone, Copy)]
 struct Tally {
     readings: u32,
     failed: u32,
 }
 
 // What became of the files so far, and where the list goes on.
-#[derive(Drop)]
+#[derive(Clone, Copy)]
 struct Tried {
     tally: Tally,
     next: Place,

@@ -11,21 +11,21 @@ use format::{Counted, NO_RANGE, Place, Range};
 use model::answers::no_lyrics;
 use model::{LyricLine, LyricTrack, Lyrics};
 
-#[derive(Drop)]
+#[derive(Clone, Copy)]
 pub struct Names {
     pub title: Range,
     pub subtitle: Range,
     pub artist: Range,
 }
 
-#[derive(Drop)]
+#[derive(Clone, Copy)]
 struct NamesRead {
     names: Names,
     next: Place,
 }
 
 // What the answer says of the song.
-#[derive(Drop)]
+#[derive(Clone, Copy)]
 pub struct Info {
     pub title: Range,
     pub subtitle: Range,
@@ -34,26 +34,26 @@ pub struct Info {
     pub copyright: Range,
 }
 
-#[derive(Drop)]
+#[derive(Clone, Copy)]
 pub struct InfoRead {
     pub info: Info,
     pub next: Place,
 }
 
 // Whether a triplet feel is lost.
-#[derive(Drop)]
+#[derive(Clone, Copy)]
 pub struct FeelRead {
     pub lost: bool,
     pub next: Place,
 }
 
-#[derive(Drop)]
+#[derive(Clone, Copy)]
 struct LineRead {
     line: LyricLine,
     next: Place,
 }
 
-#[derive(Drop)]
+#[derive(Clone, Copy)]
 pub struct LyricsRead {
     pub lyrics: Lyrics,
     pub next: Place,

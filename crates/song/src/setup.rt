@@ -9,21 +9,21 @@ use bin::{Byte, skip_at};
 use format::Place;
 use model::Tempo;
 
-#[derive(Drop)]
+#[derive(Clone, Copy)]
 pub struct SetupRead {
     pub tempo: Tempo,
     pub next: Place,
 }
 
 // The programs of a port's channels.
-#[derive(Drop)]
+#[derive(Clone, Copy)]
 struct PortRead {
     programs: [u8; 16],
     next: Place,
 }
 
 // The bars that the directions name, 0 where one names none.
-#[derive(Drop)]
+#[derive(Clone, Copy)]
 pub struct DirectionsRead {
     pub bars: [u16; 19],
     pub next: Place,

@@ -1,5 +1,7 @@
 // Flat tables of words that a caller lends: entries of a fixed number of words (the stride), one after another from the start.
 // Total: a word past the end loads as 0 and a store past the end does nothing, at every index. Nothing of music.
+#![tactic(auto)]
+
 ghost use Rattle.std.specs.Prelude.{◌≡◌, ◌+◌, ◌*◌, ◌/◌, ◌%◌, ◌<◌, ◌≤◌, min, length, get_or, set};
 ghost use Rattle.std.proofs.lemmas.List.Edits.{sets};
 ghost use Rattle.tables.specs.Table.{entry, room, one_more};

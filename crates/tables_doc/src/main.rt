@@ -1,4 +1,6 @@
 // Writes docs/TABLES.md: the text on standard input, with the words of one example entry of each table, in order, where it has a '~'.
+#![tactic(auto)]
+
 ghost use Rattle.std.specs.Prelude.{◌≤◌, length};
 
 use format::Range;

@@ -1,7 +1,7 @@
 -- Where every beat is kept, the fret last shown on a string of tablature is the fret last read on it.
 use Prim.Native.Nat.{ℕ, ◌-◌, ◌<◌}
 use native.Mathlib.Omega.{arith}
-use mathlib.Core.Path.{◌≡◌, refl, sym, ap, ◌∙◌}
+use mathlib.Core.Path.{◌≡◌, refl, sym, ap, subst, ◌∙◌}
 use mathlib.Core.Bool.{Bool, true, false, ◌&&◌, false≢true}
 use mathlib.Core.List.{List, [], ◌∷◌, map, reverse, reverse_aux}
 use mathlib.Core.Logic.{inl, inr}
@@ -115,6 +115,12 @@ module _ (tracks : List TrackTold) (track voice i : ℕ) (tablature : (board_in 
     abbrev last : LastFret
     last = last_read_in tracks track voice i es
 
+    -- what is seen on a string of a voice of a track after the beat is what was last read there
+    abbrev SeenRead : (t v : ℕ) → Type 0
+    SeenRead t v =
+        or_earlier (shown_on ((board_in tracks t).strings.count - i) (chord_read tracks b es).members) (last_read_in tracks t v i es)
+        ≡ last_read_in tracks t v i (plays b ∷ es)
+
     chord_read_lem : (t : Bool) → of_voice track voice b ≡ t
         → pick t (or_earlier (shown_on string (chord_read tracks b es).members) last) last
         ≡ last_read_in tracks track voice i (plays b ∷ es)
@@ -123,10 +129,13 @@ module _ (tracks : List TrackTold) (track voice i : ℕ) (tablature : (board_in 
         let t : eqb b.track track ≡ true = first (eqb b.track track) (eqb b.voice voice) e in
         let v : eqb b.voice voice ≡ true = second (eqb b.track track) (eqb b.voice voice) e in
         let at : track ≡ b.track = sym (eqb-true b.track track t) in
-        let of : voice ≡ b.voice = sym (eqb-true b.voice voice v) in
-        rw (e, at, of)
+        let own : of_voice b.track b.voice b ≡ true = rw (eq-eqb b.track b.track refl, eq-eqb b.voice b.voice refl) in
+        let read : SeenRead b.track b.voice =
+        rw own
         (chord_shows tracks b es (rw at at tablature) i (rw at at there) seven
-        (last_read_in tracks b.track b.voice i es))
+        (last_read_in tracks b.track b.voice i es)) in
+        subst (λ (n : ℕ). SeenRead n voice) (eqb-true b.track track t)
+        (subst (λ (n : ℕ). SeenRead b.track n) (eqb-true b.voice voice v) read)
 
     pub beat_shows : last_shown track voice string (reverse_aux (rows_read tracks b es) before)
         ≡ last_read_in tracks track voice i (plays b ∷ es)

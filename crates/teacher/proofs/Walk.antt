@@ -2,7 +2,7 @@
 -- note at the fret that was last read on its string.
 use Prim.Native.Nat.{ℕ, zero, suc, ◌<◌}
 use native.Mathlib.Omega.{arith}
-use mathlib.Core.Path.{◌≡◌, refl, sym, ap, ◌∙◌}
+use mathlib.Core.Path.{◌≡◌, refl, sym, ap, subst, ◌∙◌}
 use mathlib.Core.Bool.{Bool, true, false}
 use mathlib.Core.List.{List, [], ◌∷◌, ◌++◌, map, map-append, reverse, reverse_aux, reverse_aux-append}
 use borrow.Author.Tests.{eqb-true, eqb-false, eq-eqb}
@@ -302,6 +302,13 @@ module _ (tracks : List TrackTold) (es : List Event) (b : BeatTold) (w : Walk Li
   there_after =
       change_there (with_voice b.voice after.voice) no_part w.parts b.track (omega (arith, f.parts))
 
+  -- what a voice of a track remembers is what was last read there
+  abbrev FretsRead : (t v : ℕ) → Type 0
+  FretsRead t v = (voice_of v (get_or voiced t no_part)).frets ≡ all_read (board_in tracks t).strings.count t v (plays b ∷ es)
+
+  own_read : FretsRead b.track b.voice
+  own_read = rw (there_after, voice_there b.voice after.voice part) own_after
+
   frets_after : (t v : ℕ) → t < length tracks → v < 2
       → (voice_of v (get_or now.parts t no_part)).frets ≡ all_read (board_in tracks t).strings.count t v (plays b ∷ es)
   frets_after t v h k = rw (voice_after_lem t v) (go (eqb b.track t) refl (eqb b.voice v) refl)
@@ -309,9 +316,8 @@ module _ (tracks : List TrackTold) (es : List Event) (b : BeatTold) (w : Walk Li
       go : (c : Bool) → eqb b.track t ≡ c → (d : Bool) → eqb b.voice v ≡ d
           → (voice_of v (get_or voiced t no_part)).frets ≡ all_read (board_in tracks t).strings.count t v (plays b ∷ es)
       go true p true q =
-          let at : t ≡ b.track = sym (eqb-true b.track t p) in
-          let of : v ≡ b.voice = sym (eqb-true b.voice v q) in
-          rw (at, of, there_after, voice_there b.voice after.voice part) own_after
+          subst (λ (n : ℕ). FretsRead n v) (eqb-true b.track t p)
+          (subst (λ (n : ℕ). FretsRead b.track n) (eqb-true b.voice v q) own_read)
       go true p false q =
           let at : t ≡ b.track = sym (eqb-true b.track t p) in
           others_after t v h k (rw (p, q))

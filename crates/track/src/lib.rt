@@ -1,4 +1,6 @@
 // Tracks.
+#![tactic(auto)]
+
 ghost use Rattle.std.specs.Prelude.{◌≡◌, ◌≤◌};
 ghost use Rattle.format.specs.Place.{Gives, Reaches};
 ghost use Rattle.track.specs.Track as track;
@@ -11,52 +13,52 @@ use header::has;
 use model::{Clef, Program};
 
 // A track's strings: how many, and the keys of the open ones in the file's order, 0 past the last.
-#[derive(Drop)]
+#[derive(Clone, Copy)]
 pub struct Strings {
     pub count: u8,
     pub tunings: [u8; 7],
 }
 
-#[derive(Drop)]
+#[derive(Clone, Copy)]
 struct TuningsRead {
     tunings: [u8; 7],
     next: Place,
 }
 
-#[derive(Drop)]
+#[derive(Clone, Copy)]
 struct StringsRead {
     strings: Strings,
     next: Place,
 }
 
 // Where a track's program stands in the channel table, and its capo.
-#[derive(Drop)]
+#[derive(Clone, Copy)]
 pub struct Sound {
     pub port: u8,
     pub channel: u8,
     pub capo: u8,
 }
 
-#[derive(Drop)]
+#[derive(Clone, Copy)]
 struct SoundRead {
     sound: Sound,
     next: Place,
 }
 
 // What a track says of its staff from v500 on.
-#[derive(Drop)]
+#[derive(Clone, Copy)]
 pub struct Staff {
     pub flags: u8,
     pub clef: u32,
 }
 
-#[derive(Drop)]
+#[derive(Clone, Copy)]
 struct StaffRead {
     staff: Staff,
     next: Place,
 }
 
-#[derive(Drop)]
+#[derive(Clone, Copy)]
 pub struct TrackHeader {
     pub name: Range,
     pub strings: Strings,
@@ -68,7 +70,7 @@ pub struct TrackHeader {
     pub program: Program,
 }
 
-#[derive(Drop)]
+#[derive(Clone, Copy)]
 pub struct TrackRead {
     pub track: TrackHeader,
     pub next: Place,

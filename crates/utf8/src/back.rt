@@ -11,14 +11,14 @@ use crate::characters::{INDEX, character_of};
 use bin::ahead;
 
 // A byte, and the length of its character.
-#[derive(Drop)]
+#[derive(Clone, Copy)]
 pub enum Found {
     Byte(u8, usize),
     NoByte,
 }
 
 // How many bytes a text reads back to.
-#[derive(Drop)]
+#[derive(Clone, Copy)]
 pub enum ReadBack {
     Characters(usize),
     Refused,

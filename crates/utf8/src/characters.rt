@@ -11,7 +11,7 @@ pub const INDEX: [u16; 32] = [
 ];
 
 // The first `len` of three bytes.
-#[derive(Drop)]
+#[derive(Clone, Copy)]
 pub struct Character {
     pub bytes: [u8; 3],
     pub len: usize,

@@ -1,5 +1,7 @@
 // Texts for the web (document 02, l): a range of a file's bytes, which are windows-1252, written as UTF-8 into a lent buffer, and such
 // UTF-8 read back. Each way is gone twice: the first pass finds what there is to refuse and the length, the second stores.
+#![tactic(auto)]
+
 ghost use Rattle.std.specs.Prelude.{◌≡◌};
 ghost use Rattle.utf8.specs.Answers.{number_of, length_of, to_utf8, from_utf8};
 
@@ -10,7 +12,7 @@ mod text;
 use crate::back::ReadBack;
 use format::Range;
 
-#[derive(Drop)]
+#[derive(Clone, Copy)]
 pub enum Coded {
     // so many bytes
     Wrote(usize),
@@ -48,9 +50,7 @@ pub fn length(x: Coded) -> usize
 
 // Any range of any input.
 pub fn to_utf8(data: &[u8], range: Range, out: &mut [u8]) -> Coded
-    ensures* { λ r.
-        let result = to_utf8 «data».now range out.old in
-        ⌜ (r ≡ result.coded) × (out.new ≡ result.buffer) ⌝ }
+    ensures { let said = to_utf8 «data».now range out.old in (result ≡ said.coded) × (out.new ≡ said.buffer) }
 {
     let start = range.start;
     let end = range.end;
@@ -65,9 +65,7 @@ pub fn to_utf8(data: &[u8], range: Range, out: &mut [u8]) -> Coded
 
 // All of `data`: a caller with a range lends that part.
 pub fn from_utf8(data: &[u8], out: &mut [u8]) -> Coded
-    ensures* { λ r.
-        let result = from_utf8 «data».now out.old in
-        ⌜ (r ≡ result.coded) × (out.new ≡ result.buffer) ⌝ }
+    ensures { let said = from_utf8 «data».now out.old in (result ≡ said.coded) × (out.new ≡ said.buffer) }
 {
     let ReadBack::Characters(size) = back::count(data) else {
         return Coded::NoCharacter;

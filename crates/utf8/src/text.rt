@@ -11,7 +11,7 @@ use crate::characters::character_of;
 const LARGEST: usize = 18446744073709551615;
 
 // A length that can be stated, or one past all of these.
-#[derive(Drop)]
+#[derive(Clone, Copy)]
 pub enum Length {
     Bytes(usize),
     TooLong,
@@ -64,9 +64,7 @@ fn write(text: &[u8], out: &mut [u8])
 
 // The text as UTF-8 in a buffer.
 pub fn put(text: &[u8], out: &mut [u8]) -> Coded
-    ensures* { λ r.
-        let result = answers.put (written text.now) out.old in
-        ⌜ (r ≡ result.coded) × (out.new ≡ result.buffer) ⌝ }
+    ensures { let said = answers.put (written text.now) out.old in (result ≡ said.coded) × (out.new ≡ said.buffer) }
 {
     let Length::Bytes(needed) = length_of(text) else {
         return Coded::Short(LARGEST);

@@ -1,4 +1,6 @@
 // How a reading ends, whatever was read: no more bytes than the limit are looked at, and a stop becomes an outcome.
+#![tactic(auto)]
+
 ghost use Rattle.std.specs.Prelude.{◌≡◌};
 ghost use Rattle.bin.specs.Signed.{signed};
 ghost use Rattle.format.specs.Verdict.{up_to};

@@ -1,4 +1,6 @@
 // The walk over bars, tracks, voices and beats.
+#![tactic(auto)]
+
 ghost use Rattle.format.specs.Place.{Reaches};
 ghost use Rattle.format.specs.Prog.{turns};
 ghost use Rattle.score.specs.File as file;
@@ -23,21 +25,21 @@ use score::{Fretboard, Tally};
 use words::voice::VoiceWords;
 
 // What is counted so far, and where reading goes on.
-#[derive(Drop)]
+#[derive(Clone, Copy)]
 pub struct Walked {
     pub tally: Tally,
     pub next: Place,
 }
 
 // The same while the losses are lent.
-#[derive(Drop)]
+#[derive(Clone, Copy)]
 struct Step {
     progress: Progress,
     next: Place,
 }
 
 // The same after beats of a track, with its running dynamic.
-#[derive(Drop)]
+#[derive(Clone, Copy)]
 struct Entered {
     progress: Progress,
     running: u8,

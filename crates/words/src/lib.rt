@@ -1,4 +1,6 @@
 // The tables of a page as words: sums and losses, as far as a word goes.
+#![tactic(auto)]
+
 ghost use Rattle.std.specs.Prelude.{◌≡◌, [], ◌∷◌};
 ghost use Rattle.score.specs.Losses.{report_if};
 ghost use Rattle.words.specs.Words.{word_plus};

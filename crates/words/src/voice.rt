@@ -33,6 +33,7 @@ pub const NO_VOICE: VoiceWords = [0u32; 15];
 
 // ---- what the words say
 
+#[tactic(auto, unfolding(crate::specs::Words::voice_from))]
 pub fn frets(w: &VoiceWords) -> [u32; 7]
     ensures { frets_in result ≡ (voice_in w.now).frets }
 {
@@ -48,6 +49,7 @@ pub fn hammer(w: &VoiceWords) -> Hammer
     Hammer::NoHammer
 }
 
+#[tactic(auto, unfolding(crate::specs::Words::voice_from))]
 pub fn last(w: &VoiceWords) -> Span
     ensures { result ≡ (voice_in w.now).last }
 {

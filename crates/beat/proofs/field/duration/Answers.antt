@@ -1,0 +1,9 @@
+-- By its byte.
+use Rattle.beat.specs.Head.{head_of}
+use Rattle.beat.specs.Words.{head_in, head_with}
+use Rattle.beat.proofs.field.duration.Goals as goal
+
+pub returns : goal.returns
+unfolding head_in head_with head_of
+returns c =
+    rw (c.from_code.ensures, c.byte_of.ensures)

@@ -1,0 +1,10 @@
+-- By its bytes.
+use Rattle.format.specs.Prog.{has}
+use Rattle.beat.specs.Effects.{effects_of}
+use Rattle.beat.specs.Words.{effects_in, effects_with}
+use Rattle.beat.proofs.field.whammy_lost.Goals as goal
+
+pub returns : goal.returns
+unfolding has effects_of effects_in effects_with
+returns c =
+    rw (c.dive.ensures, c.byte_of.ensures)

@@ -1,0 +1,18 @@
+-- What is left to the first zero is as long as it was from the start.
+use borrow.Author.Rules.{rules}
+use native.Mathlib.Omega.{arith}
+use Prim.Native.Nat.{◌-◌}
+use Rattle.format.proofs.Text.{cut_found, cut_on, cut_out}
+use Rattle.bin.proofs.string.cut_end.Goals as goal
+
+pub returns-then-s-i-eq0 : goal.returns-then-s-i-eq0
+returns-then-s-i-eq0 c =
+    (search rules, search rules, search (cut_found, arith))
+
+pub loop-i-preserved : goal.loop-i-preserved
+loop-i-preserved c =
+    (search rules, search rules, search (cut_on, arith))
+
+pub returns : goal.returns
+returns c =
+    (search rules, search rules, search (cut_out, arith))

@@ -1,0 +1,23 @@
+-- Field by field.
+use Rattle.score.specs.Rows.{chord_row}
+use Rattle.draft.proofs.Steps.{marks_counted}
+use Rattle.draft.proofs.rows.chord_row.Goals as goal
+
+pub returns : goal.returns
+unfolding chord_row
+returns c =
+    λ s board flat. let a = c.args in
+    let v = c.voicing_of-voiced.ensures in
+    rw (
+      c.value_of.ensures s a.v a.notes.now,
+      c.range-range.ensures,
+      c.chord-name.ensures,
+      c.ottava-ottava.ensures,
+      c.head_of-head.ensures s a.v,
+      c.brush-arpeggio.ensures,
+      c.level_of-after.ensures s a.v,
+      c.listed.ensures,
+      v.marks s,
+      marks_counted,
+      ← v.played s,
+    )

@@ -1,0 +1,14 @@
+-- An entry that the table holds whole, or none.
+use borrow.Author.Tests.{eq-eqb, ne_eqb}
+use Rattle.entries.specs.Words.{bar_at}
+use Rattle.entries.proofs.bars.bar_at.Goals as goal
+
+pub returns-then-w-eq0 : goal.returns-then-w-eq0
+unfolding bar_at
+returns-then-w-eq0 c =
+    let e = c.entry_of-w.ensures in rw (← e, eq-eqb _ _ c.if-w-eq0.true)
+
+pub returns : goal.returns
+unfolding bar_at
+returns c =
+    let e = c.entry_of-w.ensures in rw (← e, ne_eqb _ _ c.if-w-eq0.false, c.bar_of.ensures)

@@ -1,0 +1,7 @@
+-- One field of an entry is one word.
+use mathlib.Core.Path.{◌∙◌}
+use Rattle.entries.proofs.bars.set_tempo.Goals as goal
+
+pub returns : goal.returns
+returns c =
+    c.store_field.ensures ∙ rw c.tempo_word.ensures

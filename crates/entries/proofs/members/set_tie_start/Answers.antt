@@ -1,0 +1,7 @@
+-- One field of an entry is one word.
+use mathlib.Core.Path.{◌∙◌}
+use Rattle.entries.proofs.members.set_tie_start.Goals as goal
+
+pub returns : goal.returns
+returns c =
+    c.store_field.ensures ∙ rw c.flag_word.ensures

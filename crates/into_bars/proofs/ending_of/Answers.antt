@@ -1,0 +1,11 @@
+-- By the test.
+use borrow.Author.Tests.{eq-eqb, ne_eqb}
+use Rattle.into_bars.proofs.ending_of.Goals as goal
+
+pub returns-then-n-eq0 : goal.returns-then-n-eq0
+returns-then-n-eq0 c =
+    simp (eq-eqb _ _ c.if-n-eq0.true)
+
+pub returns : goal.returns
+returns c =
+    simp (ne_eqb _ _ c.if-n-eq0.false)

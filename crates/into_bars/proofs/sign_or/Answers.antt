@@ -1,0 +1,10 @@
+-- By the test.
+use Rattle.into_bars.proofs.sign_or.Goals as goal
+
+pub returns-then-stands_at : goal.returns-then-stands_at
+returns-then-stands_at c =
+    rw (← c.stands_at.ensures, c.if-stands_at.true)
+
+pub returns : goal.returns
+returns c =
+    rw (← c.stands_at.ensures, c.if-stands_at.false)

@@ -1,0 +1,14 @@
+-- The kind that a word stands for; the last arm by what no other arm names.
+use borrow.Author.Tests.{eq-eqb, ne_eqb}
+use Rattle.model.specs.Kinds.{tempo_of}
+use Rattle.model.proofs.kinds.tempo_of.Goals as goal
+
+pub returns-then-word-eq0 : goal.returns-then-word-eq0
+unfolding tempo_of
+returns-then-word-eq0 c =
+    simp (eq-eqb _ _ c.if-word-eq0.true)
+
+pub returns : goal.returns
+unfolding tempo_of
+returns c =
+    simp (ne_eqb _ _ c.if-word-eq0.false)

@@ -1,0 +1,27 @@
+-- What is left of the ports.
+use borrow.Author.Rules.{rules}
+use Prim.Native.Nat.{◌-◌}
+use lib.ListN.{length-set}
+use Rattle.format.proofs.Rules.{turning, then, done}
+use Rattle.song.specs.Setup.{no_port, no_ports, next_port, channel_table}
+use Rattle.song.proofs.setup.channel_table_at.Goals as goal
+
+pub loop-i-init : goal.loop-i-init
+unfolding no_port no_ports next_port channel_table
+loop-i-init c =
+    (search rules, search rules, search turning)
+
+pub loop-i-preserved : goal.loop-i-preserved
+unfolding no_port no_ports next_port channel_table
+loop-i-preserved c =
+    (search rules, search (rules, length-set), search (turning, then, done))
+
+pub returns-in_default : goal.returns-in_default
+unfolding no_port no_ports next_port channel_table
+returns-in_default c =
+    search turning
+
+pub returns : goal.returns
+unfolding no_port no_ports next_port channel_table
+returns c =
+    search turning

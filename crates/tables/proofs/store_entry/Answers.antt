@@ -1,0 +1,8 @@
+-- The words of an entry, stored where the entry starts.
+use mathlib.Core.Path.{◌∙◌}
+use Rattle.tables.proofs.Laws.{sets_start}
+use Rattle.tables.proofs.store_entry.Goals as goal
+
+pub returns : goal.returns
+returns c =
+    c.store_words.ensures ∙ sets_start c.before.args.w.now c.before.args.t.now _ _ c.start_of-at.ensures

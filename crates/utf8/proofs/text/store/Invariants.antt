@@ -1,0 +1,12 @@
+-- Byte by byte.
+use mathlib.Core.Path.{◌≡◌}
+use Prim.Native.Nat.{◌+◌, ◌-◌, ◌≤◌}
+use lib.ListN.{length, drop}
+use lib.Seq.{sets}
+use Rattle.utf8.proofs.text.store.Given as goal
+
+abbrev pub invariant-loop-j : goal.invariant-loop-j
+invariant-loop-j l = (l.j ≤ length l.bytes) × (length l.out ≡ length l.initial.out) × (sets l.out (l.at + l.j) (drop l.j l.bytes) ≡ sets l.initial.out l.at l.bytes)
+
+abbrev pub decreases-loop-j : goal.decreases-loop-j
+decreases-loop-j l = length l.bytes - l.j
