@@ -5,9 +5,8 @@
 ghost use Rattle.std.specs.Prelude.{◌≤◌};
 
 use format::Range;
+use std::io;
 use utf8::Coded;
-
-const STDOUT: i32 = 1;
 
 const FILL: u8 = 170;
 
@@ -39,34 +38,24 @@ const NONE: Tally = Tally {
 
 // ---- what is printed
 
-fn print(text: &[u8]) {
-    io::write_all(STDOUT, text);
+fn print_number(rt: &impl Print, label: &[u8], n: u64) -> io::Result<()> {
+    rt.write_all(label)?;
+    rt.print(n)
 }
 
-fn wide(byte: u8) -> u64 {
-    byte as u64
-}
-
-fn print_number(label: &[u8], n: u64) {
-    print(label);
-    io::print_decimal(STDOUT, n);
-}
-
-fn print_bytes(bytes: &[u8]) {
-    let mut i: usize = 0;
-    while i < bytes.len() {
-        print(b" ");
-        io::print_hex(STDOUT, wide(bytes[i]), 2);
-        i += 1;
+fn print_bytes(rt: &impl Print, bytes: &[u8]) -> io::Result<()> {
+    for byte in bytes {
+        print!(rt; " {byte:02x}")?;
     }
+    Ok(())
 }
 
 // A call's answer, and the buffer after it.
-fn print_answer(answer: Coded, out: &[u8]) {
-    print_number(b": ", utf8::number(answer) as u64);
-    print_number(b" ", utf8::length(answer) as u64);
-    print(b",");
-    print_bytes(out);
+fn print_answer(rt: &impl Print, answer: Coded, out: &[u8]) -> io::Result<()> {
+    print_number(rt, b": ", utf8::number(answer) as u64)?;
+    print_number(rt, b" ", utf8::length(answer) as u64)?;
+    rt.write_all(b",")?;
+    print_bytes(rt, out)
 }
 
 // ---- each byte
@@ -75,30 +64,35 @@ fn byte(n: u32) -> u8 {
     (n % 256) as u8
 }
 
-fn try_byte(x: u8) {
+fn try_byte(rt: &impl Print, x: u8) -> io::Result<()> {
     let data = [x];
-    print(b"byte");
-    print_bytes(&data);
+    rt.write_all(b"byte")?;
+    print_bytes(rt, &data)?;
     let range = Range { start: 0, end: 1 };
     let mut out = [FILL; LONGEST + 1];
     let answer = utf8::to_utf8(&data, range, &mut out);
-    print_answer(answer, &out);
-    print(b"; back");
+    print_answer(rt, answer, &out)?;
+    rt.write_all(b"; back")?;
     let mut again = [FILL; 2];
     let back = utf8::from_utf8(bin::text(&out, 0, utf8::length(answer)), &mut again);
-    print_answer(back, &again);
-    print(b"\n");
+    print_answer(rt, back, &again)?;
+    rt.write_all(b"\n")
 }
 
-fn try_bytes() {
+fn try_bytes(rt: &impl Print) -> io::Result<()> {
     let mut n: u32 = 0;
     while n < 256 {
-        try_byte(byte(n));
+        try_byte(rt, byte(n))?;
         n += 1;
     }
+    Ok(())
 }
 
 // ---- every text of up to three bytes
+
+fn wide(byte: u8) -> u64 {
+    byte as u64
+}
 
 fn digested(digest: u64, bytes: &[u8]) -> u64 {
     let mut d = digest;
@@ -210,24 +204,25 @@ fn with_one(first: u8) -> Tally {
     tally
 }
 
-fn try_texts_from(first: u8) {
+fn try_texts_from(rt: &impl Print, first: u8) -> io::Result<()> {
     let tally = with_one(first);
-    print(b"texts from");
-    print_bytes(&[first]);
-    print_number(b": ", tally.ones);
-    print_number(b" ", tally.twos);
-    print_number(b" ", tally.threes);
-    print_number(b", digest ", tally.digest);
-    print_number(b", faults ", tally.faults);
-    print(b"\n");
+    rt.write_all(b"texts from")?;
+    print_bytes(rt, &[first])?;
+    print_number(rt, b": ", tally.ones)?;
+    print_number(rt, b" ", tally.twos)?;
+    print_number(rt, b" ", tally.threes)?;
+    print_number(rt, b", digest ", tally.digest)?;
+    print_number(rt, b", faults ", tally.faults)?;
+    rt.write_all(b"\n")
 }
 
-fn try_texts() {
+fn try_texts(rt: &impl Print) -> io::Result<()> {
     let mut n: u32 = 0;
     while n < 256 {
-        try_texts_from(byte(n));
+        try_texts_from(rt, byte(n))?;
         n += 1;
     }
+    Ok(())
 }
 
 // ---- the traps by name
@@ -241,68 +236,75 @@ fn held(room: usize) -> usize
     ROOM
 }
 
-fn read_back(name: &[u8], text: &[u8], room: usize) {
+fn read_back(rt: &impl Print, name: &[u8], text: &[u8], room: usize) -> io::Result<()> {
     let mut space = [FILL; ROOM];
     let k = held(room);
     let out = &mut space[..k];
-    print(name);
-    print_answer(utf8::from_utf8(text, out), out);
-    print(b"\n");
+    rt.write_all(name)?;
+    print_answer(rt, utf8::from_utf8(text, out), out)?;
+    rt.write_all(b"\n")
 }
 
-fn write(name: &[u8], data: &[u8], start: usize, end: usize, room: usize) {
+fn write(
+    rt: &impl Print,
+    name: &[u8],
+    data: &[u8],
+    start: usize,
+    end: usize,
+    room: usize,
+) -> io::Result<()> {
     let mut space = [FILL; ROOM];
     let k = held(room);
     let out = &mut space[..k];
-    print(name);
-    print_answer(utf8::to_utf8(data, Range { start, end }, out), out);
-    print(b"\n");
+    rt.write_all(name)?;
+    print_answer(rt, utf8::to_utf8(data, Range { start, end }, out), out)?;
+    rt.write_all(b"\n")
 }
 
-fn read_traps() {
-    read_back(b"control character 80", &[0xC2, 0x80], ROOM);
-    read_back(b"not shortest, C0 80", &[0xC0, 0x80], ROOM);
-    read_back(b"not shortest, C1 81", &[0xC1, 0x81], ROOM);
-    read_back(b"not shortest, E0 82 80", &[0xE0, 0x82, 0x80], ROOM);
-    read_back(b"cut off, E2 82", &[0xE2, 0x82], ROOM);
-    read_back(b"cut off, A E2 82", &[0x41, 0xE2, 0x82], ROOM);
-    read_back(b"cut off, C3", &[0xC3], ROOM);
-    read_back(b"byte order mark", &[0xEF, 0xBB, 0xBF], ROOM);
-    read_back(b"80 alone", &[0x80], ROOM);
-    read_back(b"four bytes", &[0xF0, 0x9F, 0x8E, 0xB8], ROOM);
-    read_back(b"surrogate", &[0xED, 0xA0, 0x80], ROOM);
+fn read_traps(rt: &impl Print) -> io::Result<()> {
+    read_back(rt, b"control character 80", &[0xC2, 0x80], ROOM)?;
+    read_back(rt, b"not shortest, C0 80", &[0xC0, 0x80], ROOM)?;
+    read_back(rt, b"not shortest, C1 81", &[0xC1, 0x81], ROOM)?;
+    read_back(rt, b"not shortest, E0 82 80", &[0xE0, 0x82, 0x80], ROOM)?;
+    read_back(rt, b"cut off, E2 82", &[0xE2, 0x82], ROOM)?;
+    read_back(rt, b"cut off, A E2 82", &[0x41, 0xE2, 0x82], ROOM)?;
+    read_back(rt, b"cut off, C3", &[0xC3], ROOM)?;
+    read_back(rt, b"byte order mark", &[0xEF, 0xBB, 0xBF], ROOM)?;
+    read_back(rt, b"80 alone", &[0x80], ROOM)?;
+    read_back(rt, b"four bytes", &[0xF0, 0x9F, 0x8E, 0xB8], ROOM)?;
+    read_back(rt, b"surrogate", &[0xED, 0xA0, 0x80], ROOM)
 }
 
-fn read_others() {
-    read_back(b"euro sign", &[0xE2, 0x82, 0xAC], ROOM);
-    read_back(b"E9", &[0xC3, 0xA9], ROOM);
-    read_back(b"zero byte", &[0x41, 0, 0x42], ROOM);
-    read_back(b"no text", &[], 0);
-    read_back(b"no character before no room", &[0x41, 0xFF], 0);
-    read_back(b"no character after A", &[0x41, 0xFF], ROOM);
-    read_back(b"no room", &[0x41, 0xE2, 0x82, 0xAC], 1);
-    read_back(b"just room", &[0x41, 0xE2, 0x82, 0xAC], 2);
+fn read_others(rt: &impl Print) -> io::Result<()> {
+    read_back(rt, b"euro sign", &[0xE2, 0x82, 0xAC], ROOM)?;
+    read_back(rt, b"E9", &[0xC3, 0xA9], ROOM)?;
+    read_back(rt, b"zero byte", &[0x41, 0, 0x42], ROOM)?;
+    read_back(rt, b"no text", &[], 0)?;
+    read_back(rt, b"no character before no room", &[0x41, 0xFF], 0)?;
+    read_back(rt, b"no character after A", &[0x41, 0xFF], ROOM)?;
+    read_back(rt, b"no room", &[0x41, 0xE2, 0x82, 0xAC], 1)?;
+    read_back(rt, b"just room", &[0x41, 0xE2, 0x82, 0xAC], 2)
 }
 
-fn write_traps() {
+fn write_traps(rt: &impl Print) -> io::Result<()> {
     let data = [0x41, 0xE9, 0x80, 0];
-    write(b"E9 into one byte", &data, 1, 2, 1);
-    write(b"E9 into two", &data, 1, 2, 2);
-    write(b"all into six", &data, 0, 4, 6);
-    write(b"all into seven", &data, 0, 4, 7);
-    write(b"all into nine", &data, 0, 4, ROOM);
-    write(b"empty range", &data, 0, 0, 0);
-    write(b"empty range at the end", &data, 4, 4, 2);
-    write(b"start after end", &data, 3, 2, ROOM);
-    write(b"start after end, no room", &data, 3, 2, 0);
-    write(b"end past the input", &data, 0, 5, ROOM);
-    write(b"end past the input, no room", &data, 5, 5, 0);
+    write(rt, b"E9 into one byte", &data, 1, 2, 1)?;
+    write(rt, b"E9 into two", &data, 1, 2, 2)?;
+    write(rt, b"all into six", &data, 0, 4, 6)?;
+    write(rt, b"all into seven", &data, 0, 4, 7)?;
+    write(rt, b"all into nine", &data, 0, 4, ROOM)?;
+    write(rt, b"empty range", &data, 0, 0, 0)?;
+    write(rt, b"empty range at the end", &data, 4, 4, 2)?;
+    write(rt, b"start after end", &data, 3, 2, ROOM)?;
+    write(rt, b"start after end, no room", &data, 3, 2, 0)?;
+    write(rt, b"end past the input", &data, 0, 5, ROOM)?;
+    write(rt, b"end past the input, no room", &data, 5, 5, 0)
 }
 
-fn main() {
-    try_bytes();
-    read_traps();
-    read_others();
-    write_traps();
-    try_texts();
+fn main(rt: HostRuntime) -> io::Result<()> {
+    try_bytes(&rt)?;
+    read_traps(&rt)?;
+    read_others(&rt)?;
+    write_traps(&rt)?;
+    try_texts(&rt)
 }

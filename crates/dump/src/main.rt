@@ -7,7 +7,9 @@ use entries::points::POINT_WORDS;
 use entries::rows::ROW_WORDS;
 use entries::texts::TEXT_WORDS;
 use entries::tracks::TRACK_WORDS;
+use show::form::PAGE;
 use show::input::Input;
+use std::io;
 
 // One byte more than is taken, to tell a longer file.
 const ROOM: usize = 1048577;
@@ -24,9 +26,8 @@ const POINTS: usize = 16384 * POINT_WORDS;
 
 const TEXTS: usize = 4096 * TEXT_WORDS;
 
-const STDERR: i32 = 2;
-
 fn dump(
+    rt: &(impl io::Input + Print + Eprint),
     input: &mut [u8; ROOM],
     bars: &mut [u32; BARS],
     tracks: &mut [u32; TRACKS],
@@ -34,19 +35,18 @@ fn dump(
     members: &mut [u32; MEMBERS],
     points: &mut [u32; POINTS],
     texts: &mut [u32; TEXTS],
-) {
-    let Input::Bytes(n) = show::input::read(input) else {
-        io::write_all(STDERR, b"dump: standard input could not be read\n");
-        return;
+) -> io::Result<()> {
+    let Input::Bytes(n) = show::input::read(&mut rt.reader(), input) else {
+        return rt.eprintln("dump: standard input could not be read");
     };
     if n == ROOM {
-        io::write_all(STDERR, b"dump: the file has more than 1,048,576 bytes\n");
-        return;
+        return rt.eprintln("dump: the file has more than 1,048,576 bytes");
     }
     let data = bin::text(input, 0, n);
     let answer = reader::read(data, bars, tracks, rows, members, points, texts);
-    let mut page = io::large_buffer();
+    let mut page = [0u8; PAGE];
     let s = show::dump(
+        rt,
         &mut page,
         show::PRINTED,
         data,
@@ -58,13 +58,14 @@ fn dump(
         points,
         texts,
     );
-    let s = show::flush(&page, s);
+    let s = show::flush(rt, &page, s);
     if s.failed {
-        io::write_all(STDERR, b"dump: standard output could not be written\n");
+        return rt.eprintln("dump: standard output could not be written");
     }
+    Ok(())
 }
 
-fn main() {
+fn main(rt: HostRuntime) -> io::Result<()> {
     let mut input = [0u8; ROOM];
     let mut bars = [0u32; BARS];
     let mut tracks = [0u32; TRACKS];
@@ -73,6 +74,7 @@ fn main() {
     let mut points = [0u32; POINTS];
     let mut texts = [0u32; TEXTS];
     dump(
+        &rt,
         &mut input,
         &mut bars,
         &mut tracks,
@@ -80,5 +82,5 @@ fn main() {
         &mut members,
         &mut points,
         &mut texts,
-    );
+    )
 }

@@ -44,7 +44,7 @@ fn tied_of(rows: &[u32], members: &[u32], count: u32) -> u32 {
 }
 
 // A page engine would lend what it has; a file that needs more is refused with the rooms that it needs.
-fn example(data: &[u8]) {
+fn example(rt: &impl Print, data: &[u8]) {
     let mut bars = [0u32; 64 * BAR_WORDS];
     let mut tracks = [0u32; 8 * TRACK_WORDS];
     let mut rows = [0u32; 256 * ROW_WORDS];
@@ -63,24 +63,24 @@ fn example(data: &[u8]) {
     let outcome = answer.outcome;
     let Outcome::Read = outcome else {
         let number = [model::answers::outcome_number(outcome)];
-        print(b"refused: outcome #0\n", &number, 1);
+        print(rt, b"refused: outcome #0\n", &number, 1);
         return;
     };
     let counts = answer.counts;
     let said = [counts.rows, tied_of(&rows, &members, counts.rows)];
-    print(b"#0 rows, #1 members that end a tie\n", &said, 2);
+    print(rt, b"#0 rows, #1 members that end a tie\n", &said, 2);
 }
 
-fn print(form: &[u8], words: &[u32], stride: usize) {
-    let mut page = io::large_buffer();
-    let s = show::entries(&mut page, show::PRINTED, form, words, stride, 1);
-    show::flush(&page, s);
+fn print(rt: &impl Print, form: &[u8], words: &[u32], stride: usize) {
+    let mut page = [0u8; show::form::PAGE];
+    let s = show::entries(rt, &mut page, show::PRINTED, form, words, stride, 1);
+    show::flush(rt, &page, s);
 }
 
-fn main() {
+fn main(rt: HostRuntime) {
     let mut input = [0u8; 32768];
-    let Input::Bytes(n) = show::input::read(&mut input) else {
+    let Input::Bytes(n) = show::input::read(&mut rt.reader(), &mut input) else {
         return;
     };
-    example(bin::text(&input, 0, n));
+    example(&rt, bin::text(&input, 0, n));
 }

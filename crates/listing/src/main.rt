@@ -9,16 +9,15 @@ use entries::rows::ROW_WORDS;
 use entries::texts::TEXT_WORDS;
 use entries::tracks::TRACK_WORDS;
 use model::answers;
+use show::form::PAGE;
 use show::input::Input;
+use std::io;
 
 const ROOM: usize = 32768;
 
-const STDERR: i32 = 2;
-
-fn list(input: &mut [u8; ROOM]) {
-    let Input::Bytes(n) = show::input::read(input) else {
-        io::write_all(STDERR, b"listing: standard input could not be read\n");
-        return;
+fn list(rt: &(impl io::Input + Print + Eprint), input: &mut [u8; ROOM]) -> io::Result<()> {
+    let Input::Bytes(n) = show::input::read(&mut rt.reader(), input) else {
+        return rt.eprintln("listing: standard input could not be read");
     };
     let mut bars = [0u32; 64 * BAR_WORDS];
     let mut tracks = [0u32; 8 * TRACK_WORDS];
@@ -47,8 +46,9 @@ fn list(input: &mut [u8; ROOM]) {
         kept.rows,
         kept.members,
     ];
-    let mut page = io::large_buffer();
+    let mut page = [0u8; PAGE];
     let s = show::entries(
+        rt,
         &mut page,
         show::PRINTED,
         b"#0 #1 #2 #3 #4 #5\n",
@@ -56,10 +56,11 @@ fn list(input: &mut [u8; ROOM]) {
         6,
         1,
     );
-    show::flush(&page, s);
+    show::flush(rt, &page, s);
+    Ok(())
 }
 
-fn main() {
+fn main(rt: HostRuntime) -> io::Result<()> {
     let mut input = [0u8; ROOM];
-    list(&mut input);
+    list(&rt, &mut input)
 }

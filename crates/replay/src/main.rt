@@ -12,6 +12,7 @@ use format::{Place, Stop};
 use show::form::PAGE;
 use show::input::Input;
 use show::record::{Body, MAGIC, WORDS};
+use std::io;
 
 // Bytes of a list.
 const ROOM: usize = 1048576;
@@ -20,8 +21,6 @@ const ROOM: usize = 1048576;
 const STRETCHED: usize = 1056768;
 
 const FILL: u8 = 120;
-
-const STDERR: i32 = 2;
 
 // How many records were replayed, how many of them differ, and where the list goes on.
 #[derive(Clone, Copy)]
@@ -40,6 +39,7 @@ struct Compared {
 
 // The words of a record of this input, which is read; the list has so many bytes of it.
 fn read_words(
+    rt: &impl Print,
     words: &mut [u32; WORDS],
     page: &mut [u8; PAGE],
     number: u32,
@@ -62,6 +62,7 @@ fn read_words(
         &mut texts,
     );
     let s = show::dump(
+        rt,
         page,
         show::DIGESTED,
         input,
@@ -73,12 +74,18 @@ fn read_words(
         &points,
         &texts,
     );
-    let s = show::flush(page, s);
+    let s = show::flush(rt, page, s);
     show::record::answer_words(words, number, length, answer, s.digest);
 }
 
 // Names the words in which the record at a place differs, in a line; gives how many they are.
-fn name_differences(page: &mut [u8; PAGE], list: &[u8], from: Place, words: &[u32; WORDS]) -> u32 {
+fn name_differences(
+    rt: &impl Print,
+    page: &mut [u8; PAGE],
+    list: &[u8],
+    from: Place,
+    words: &[u32; WORDS],
+) -> u32 {
     let mut s = show::PRINTED;
     let mut at = from;
     let mut differ: u32 = 0;
@@ -88,6 +95,7 @@ fn name_differences(page: &mut [u8; PAGE], list: &[u8], from: Place, words: &[u3
         at = read.next;
         if read.value != words[k] {
             s = show::entries(
+                rt,
                 page,
                 s,
                 b"!0{input #1: |, }?2{number|length|outcome|which|value|offset|used|bars|tracks|rows|members|points|texts|\
@@ -103,13 +111,19 @@ fn name_differences(page: &mut [u8; PAGE], list: &[u8], from: Place, words: &[u3
         }
         k += 1;
     }
-    s = show::entries(page, s, b"!0{|\n}", &[differ], 1, 1);
-    show::flush(page, s);
+    s = show::entries(rt, page, s, b"!0{|\n}", &[differ], 1, 1);
+    show::flush(rt, page, s);
     differ
 }
 
 // A record of an input that the list has whole.
-fn replay_whole(page: &mut [u8; PAGE], list: &[u8], from: Place, number: u32) -> Compared {
+fn replay_whole(
+    rt: &impl Print,
+    page: &mut [u8; PAGE],
+    list: &[u8],
+    from: Place,
+    number: u32,
+) -> Compared {
     let Body::Within(start, end) = show::record::body_at(list, from) else {
         return Compared {
             differ: 0,
@@ -118,8 +132,15 @@ fn replay_whole(page: &mut [u8; PAGE], list: &[u8], from: Place, number: u32) ->
     };
     let mut words = [0u32; WORDS];
     let input = bin::text(list, start, end);
-    read_words(&mut words, page, number, tables::low(input.len()), input);
-    let differ = name_differences(page, list, from, &words);
+    read_words(
+        rt,
+        &mut words,
+        page,
+        number,
+        tables::low(input.len()),
+        input,
+    );
+    let differ = name_differences(rt, page, list, from, &words);
     Compared {
         differ,
         next: Place::At(end),
@@ -148,6 +169,7 @@ fn put_at(room: &mut [u8], at: usize, bytes: &[u8]) {
 
 // A record of an input that the list has in short: before the record stand the place where bytes are left out and their number.
 fn replay_short(
+    rt: &impl Print,
     page: &mut [u8; PAGE],
     list: &[u8],
     from: Place,
@@ -172,8 +194,15 @@ fn replay_short(
     put_at(input, at + run, bin::text(left, at, left.len()));
     let mut words = [0u32; WORDS];
     let whole = (length as usize) + run;
-    read_words(&mut words, page, number, length, bin::text(input, 0, whole));
-    let differ = name_differences(page, list, record, &words);
+    read_words(
+        rt,
+        &mut words,
+        page,
+        number,
+        length,
+        bin::text(input, 0, whole),
+    );
+    let differ = name_differences(rt, page, list, record, &words);
     Compared {
         differ,
         next: Place::At(end),
@@ -181,6 +210,7 @@ fn replay_short(
 }
 
 fn replay_one(
+    rt: &impl Print,
     page: &mut [u8; PAGE],
     list: &[u8],
     from: Place,
@@ -189,13 +219,14 @@ fn replay_one(
 ) -> Compared {
     if short {
         let mut input = [FILL; STRETCHED];
-        return replay_short(page, list, from, number, &mut input);
+        return replay_short(rt, page, list, from, number, &mut input);
     }
-    replay_whole(page, list, from, number)
+    replay_whole(rt, page, list, from, number)
 }
 
 // So many records more, as far as the list goes.
 fn replay_all(
+    rt: &impl Print,
     page: &mut [u8; PAGE],
     list: &[u8],
     before: Replayed,
@@ -207,7 +238,7 @@ fn replay_all(
     let mut number = before.number;
     let mut i: u32 = 0;
     while i < count {
-        let one = replay_one(page, list, at, number, short);
+        let one = replay_one(rt, page, list, at, number, short);
         at = one.next;
         let Place::At(_) = at else {
             return Replayed {
@@ -229,24 +260,22 @@ fn replay_all(
     }
 }
 
-fn replay(input: &mut [u8; ROOM]) {
-    let Input::Bytes(n) = show::input::read(input) else {
-        io::write_all(STDERR, b"replay: standard input could not be read\n");
-        return;
+fn replay(rt: &(impl io::Input + Print + Eprint), input: &mut [u8; ROOM]) -> io::Result<()> {
+    let Input::Bytes(n) = show::input::read(&mut rt.reader(), input) else {
+        return rt.eprintln("replay: standard input could not be read");
     };
     let list = bin::text(input, 0, n);
     if bin::u32_at(list, Place::At(0)).value != MAGIC {
-        io::write_all(STDERR, b"replay: no list\n");
-        return;
+        return rt.eprintln("replay: no list");
     }
-    let mut page = io::large_buffer();
+    let mut page = [0u8; PAGE];
     let none = Replayed {
         number: 0,
         differ: 0,
         next: Place::At(8),
     };
     let count = bin::u32_at(list, Place::At(4)).value;
-    let whole = replay_all(&mut page, list, none, count, false);
+    let whole = replay_all(rt, &mut page, list, none, count, false);
     let after_whole = whole.next;
     let more = bin::u32_at(list, after_whole);
     let after_count = more.next;
@@ -255,17 +284,16 @@ fn replay(input: &mut [u8; ROOM]) {
         differ: whole.differ,
         next: after_count,
     };
-    let all = replay_all(&mut page, list, from, more.value, true);
+    let all = replay_all(rt, &mut page, list, from, more.value, true);
     let next = all.next;
     let Place::At(end) = next else {
-        io::write_all(STDERR, b"replay: the list ends within a record\n");
-        return;
+        return rt.eprintln("replay: the list ends within a record");
     };
     if end != n {
-        io::write_all(STDERR, b"replay: the list goes on after its last record\n");
-        return;
+        return rt.eprintln("replay: the list goes on after its last record");
     }
     let s = show::entries(
+        rt,
         &mut page,
         show::PRINTED,
         b"replay: #0 inputs, #1 differ\n",
@@ -273,10 +301,11 @@ fn replay(input: &mut [u8; ROOM]) {
         2,
         1,
     );
-    show::flush(&page, s);
+    show::flush(rt, &page, s);
+    Ok(())
 }
 
-fn main() {
+fn main(rt: HostRuntime) -> io::Result<()> {
     let mut input = [0u8; ROOM];
-    replay(&mut input);
+    replay(&rt, &mut input)
 }

@@ -3,26 +3,25 @@
 #![tactic(auto)]
 
 use shelves::view::WORDS;
+use show::form::PAGE;
 use show::input::Input;
+use std::io;
 
 // One byte more than is taken, to tell a longer file.
 const ROOM: usize = 4194305;
 
-const STDERR: i32 = 2;
-
-fn show_shelf(input: &mut [u8; ROOM]) {
-    let Input::Bytes(n) = show::input::read(input) else {
-        io::write_all(STDERR, b"shelf: standard input could not be read\n");
-        return;
+fn show_shelf(rt: &(impl io::Input + Print + Eprint), input: &mut [u8; ROOM]) -> io::Result<()> {
+    let Input::Bytes(n) = show::input::read(&mut rt.reader(), input) else {
+        return rt.eprintln("shelf: standard input could not be read");
     };
     if n == ROOM {
-        io::write_all(STDERR, b"shelf: the file has more than 4,194,304 bytes\n");
-        return;
+        return rt.eprintln("shelf: the file has more than 4,194,304 bytes");
     }
     let shelf = shelves::shelf(bin::text(input, 0, n));
     let words = shelves::view::words_of(shelf);
-    let mut page = io::large_buffer();
+    let mut page = [0u8; PAGE];
     let s = show::entries(
+        rt,
         &mut page,
         show::PRINTED,
         b"shelf outcome=#0 which=#1 value=~2 offset=#3 version=#4 title=#5,#6 composer=#7,#8 bars=#9 tracks=#a\n",
@@ -30,13 +29,14 @@ fn show_shelf(input: &mut [u8; ROOM]) {
         WORDS,
         1,
     );
-    let s = show::flush(&page, s);
+    let s = show::flush(rt, &page, s);
     if s.failed {
-        io::write_all(STDERR, b"shelf: standard output could not be written\n");
+        return rt.eprintln("shelf: standard output could not be written");
     }
+    Ok(())
 }
 
-fn main() {
+fn main(rt: HostRuntime) -> io::Result<()> {
     let mut input = [0u8; ROOM];
-    show_shelf(&mut input);
+    show_shelf(&rt, &mut input)
 }

@@ -8,6 +8,7 @@
 //   ?k{a|b}  the alternative of that number, from 0
 //   !k{a|b}  the first alternative where the number is 0, else the second
 // Alternatives have no alternatives in them.
+use itoa::Buffer;
 use model::kinds;
 
 // Text is gathered in a page; what does not fit is left out.
@@ -50,9 +51,8 @@ fn number(page: &mut [u8; PAGE], from: usize, n: u32, mark: u8) -> usize {
             size = 4294967296 - (n as u64);
         }
     }
-    let mut digits = [0u8; 20];
-    let k = io::decimal(size, &mut digits);
-    put(page, at, &digits[..k])
+    let mut digits = Buffer::new();
+    put(page, at, digits.format(size).as_bytes())
 }
 
 // Bit n of the mask is pass n + 1.

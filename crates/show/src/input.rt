@@ -1,5 +1,5 @@
-// Standard input, with a failed read told from the end.
-const STDIN: i32 = 0;
+// An input such as standard input, with a failed read told from the end.
+use std::io::Read;
 
 #[derive(Clone, Copy)]
 pub enum Input {
@@ -8,18 +8,14 @@ pub enum Input {
     Failed,
 }
 
-pub fn read(room: &mut [u8]) -> Input {
+pub fn read(from: &mut impl Read, room: &mut [u8]) -> Input {
     let mut n: usize = 0;
     while n < room.len() {
-        let got = libc::read(STDIN, &mut room[n..]);
-        if got < 0 {
-            return Input::Failed;
+        match from.read(&mut room[n..]) {
+            Ok(0) => return Input::Bytes(n),
+            Ok(more) => n += more,
+            Err(_) => return Input::Failed,
         }
-        let more = io::count(got, &room[n..]);
-        if more == 0 {
-            return Input::Bytes(n);
-        }
-        n += more;
     }
     Input::Bytes(n)
 }

@@ -35,8 +35,6 @@ pub const DIGESTED: Sink = Sink {
     failed: false,
 };
 
-const STDOUT: i32 = 1;
-
 // A page with fewer bytes than this has room for any line.
 const FULL: usize = 61440;
 
@@ -59,13 +57,13 @@ fn digest_text(before: u64, text: &[u8]) -> u64 {
 }
 
 // Empties the page.
-pub fn flush(page: &[u8; PAGE], s: Sink) -> Sink {
+pub fn flush(rt: &impl Print, page: &[u8; PAGE], s: Sink) -> Sink {
     let at = s.at;
     let text = bin::text(page, 0, at);
     let mut next = s;
     next.at = 0;
     if s.prints {
-        if !io::write_all(STDOUT, text) {
+        if rt.write_all(text).is_err() {
             next.failed = true;
         }
         return next;
@@ -75,17 +73,25 @@ pub fn flush(page: &[u8; PAGE], s: Sink) -> Sink {
 }
 
 // One line, and the page emptied where it is full.
-fn line(page: &mut [u8; PAGE], s: Sink, form: &[u8], words: &[u32], i: u32) -> Sink {
+fn line(
+    rt: &impl Print,
+    page: &mut [u8; PAGE],
+    s: Sink,
+    form: &[u8],
+    words: &[u32],
+    i: u32,
+) -> Sink {
     let mut next = s;
     next.at = form::fill(page, s.at, form, words, i);
     if FULL <= next.at {
-        return flush(page, next);
+        return flush(rt, page, next);
     }
     next
 }
 
 // The form of each of `count` entries of `stride` words.
 pub fn entries(
+    rt: &impl Print,
     page: &mut [u8; PAGE],
     from: Sink,
     form: &[u8],
@@ -97,6 +103,7 @@ pub fn entries(
     let mut i: u32 = 0;
     while i < count {
         s = line(
+            rt,
             page,
             s,
             form,
@@ -110,6 +117,7 @@ pub fn entries(
 
 // The form of each entry of a table, by its loads.
 fn loaded(
+    rt: &impl Print,
     page: &mut [u8; PAGE],
     from: Sink,
     form: &[u8],
@@ -121,7 +129,7 @@ fn loaded(
     let mut i: u32 = 0;
     while i < count {
         let words = loads::load(kind, table, i as usize);
-        s = line(page, s, form, &words, i);
+        s = line(rt, page, s, form, &words, i);
         i += 1;
     }
     s
@@ -129,6 +137,7 @@ fn loaded(
 
 // Family and outcome; entries kept and rooms needed of a reading; rooms needed where a table is short.
 fn head(
+    rt: &impl Print,
     page: &mut [u8; PAGE],
     s: Sink,
     data: &[u8],
@@ -156,6 +165,7 @@ fn head(
         needed.texts,
     ];
     entries(
+        rt,
         page,
         s,
         b"family #0\noutcome #1 which=#2 value=~3 offset=#4\n\
@@ -169,7 +179,7 @@ fn head(
 }
 
 // The song of a reading, which a refusal has no version of.
-fn song_lines(page: &mut [u8; PAGE], s: Sink, x: Song) -> Sink {
+fn song_lines(rt: &impl Print, page: &mut [u8; PAGE], s: Sink, x: Song) -> Sink {
     let lyrics = x.lyrics;
     let track = lyrics.track;
     // its number and one
@@ -195,6 +205,7 @@ fn song_lines(page: &mut [u8; PAGE], s: Sink, x: Song) -> Sink {
         kinds::tempo_word(tempo),
     ];
     let s = entries(
+        rt,
         page,
         s,
         b"song used=#0 version=#1 title=#2,#3 subtitle=#4,#5 composer=#6,#7 lyricist=#8,#9 copyright=#a,#b \
@@ -204,11 +215,17 @@ fn song_lines(page: &mut [u8; PAGE], s: Sink, x: Song) -> Sink {
         kinds::flag_word(x.version != 0),
     );
     let lines = lyrics.lines;
-    lyric_lines(page, s, x.version, lines)
+    lyric_lines(rt, page, s, x.version, lines)
 }
 
 // The lyrics of a song, from v400 on.
-fn lyric_lines(page: &mut [u8; PAGE], from: Sink, version: u32, lines: [LyricLine; 5]) -> Sink {
+fn lyric_lines(
+    rt: &impl Print,
+    page: &mut [u8; PAGE],
+    from: Sink,
+    version: u32,
+    lines: [LyricLine; 5],
+) -> Sink {
     if version < 400 {
         return from;
     }
@@ -223,13 +240,14 @@ fn lyric_lines(page: &mut [u8; PAGE], from: Sink, version: u32, lines: [LyricLin
             tables::low(text.start),
             tables::low(text.end),
         ];
-        s = entries(page, s, b"lyric #0 start=#1 text=#2,#3\n", &words, 4, 1);
+        s = entries(rt, page, s, b"lyric #0 start=#1 text=#2,#3\n", &words, 4, 1);
         i += 1;
     }
     s
 }
 
 fn song_tables(
+    rt: &impl Print,
     page: &mut [u8; PAGE],
     s: Sink,
     counts: Sizes,
@@ -238,6 +256,7 @@ fn song_tables(
     rows: &[u32],
 ) -> Sink {
     let s = loaded(
+        rt,
         page,
         s,
         b"bar #@ time=#0/#1 timechanged=#4 key=?2{none|~3,major|~3,minor} keychanged=#5 repeatstart=#6 repeatend=#7 \
@@ -249,6 +268,7 @@ fn song_tables(
         counts.bars,
     );
     let s = loaded(
+        rt,
         page,
         s,
         b"track #@ name=#0,#1 tunings=?2{none|#3|#3,#4|#3,#4,#5|#3,#4,#5,#6|#3,#4,#5,#6,#7|#3,#4,#5,#6,#7,#8|\
@@ -259,6 +279,7 @@ fn song_tables(
         counts.tracks,
     );
     loaded(
+        rt,
         page,
         s,
         b"row #@ bar=#0 track=#1 voice=#2 kind=?3{beat|grace} rest=#4 \
@@ -274,6 +295,7 @@ fn song_tables(
 }
 
 fn row_tables(
+    rt: &impl Print,
     page: &mut [u8; PAGE],
     s: Sink,
     counts: Sizes,
@@ -282,6 +304,7 @@ fn row_tables(
     texts: &[u32],
 ) -> Sink {
     let s = loaded(
+        rt,
         page,
         s,
         b"member #@ key=#0 flat=#1 string=!2{none|#2} fret=!2{none|#3} ghost=#4 tiestart=#6 tieend=#5 \
@@ -291,6 +314,7 @@ fn row_tables(
         counts.members,
     );
     let s = loaded(
+        rt,
         page,
         s,
         b"point #@ permille=#0 cents=~1\n",
@@ -299,6 +323,7 @@ fn row_tables(
         counts.points,
     );
     loaded(
+        rt,
         page,
         s,
         b"text #@ bar=#0 track=#1 range=#2,#3\n",
@@ -309,10 +334,11 @@ fn row_tables(
 }
 
 // The losses of a reading, and the end.
-fn closing(page: &mut [u8; PAGE], s: Sink, version: u32, x: Losses) -> Sink {
+fn closing(rt: &impl Print, page: &mut [u8; PAGE], s: Sink, version: u32, x: Losses) -> Sink {
     let counts = answers::loss_words(x);
     let codes = if version == 0 { 0 } else { 17 };
     let s = entries(
+        rt,
         page,
         s,
         b"loss #@ code=gp.?@{drum-kit|harmonic-type|let-ring-with-palm-mute|on-beat-grace|repeat-count|triplet-feel|\
@@ -323,11 +349,12 @@ fn closing(page: &mut [u8; PAGE], s: Sink, version: u32, x: Losses) -> Sink {
         1,
         codes,
     );
-    entries(page, s, b"end\n", &[0], 1, 1)
+    entries(rt, page, s, b"end\n", &[0], 1, 1)
 }
 
 // The dump of an answer and of the tables that the input was read into.
 pub fn dump(
+    rt: &impl Print,
     page: &mut [u8; PAGE],
     from: Sink,
     data: &[u8],
@@ -344,9 +371,9 @@ pub fn dump(
     let rooms = answer.rooms;
     let song = answer.song;
     let losses = answer.losses;
-    let s = head(page, from, data, outcome, counts, rooms);
-    let s = song_lines(page, s, song);
-    let s = song_tables(page, s, counts, bars, tracks, rows);
-    let s = row_tables(page, s, counts, members, points, texts);
-    closing(page, s, song.version, losses)
+    let s = head(rt, page, from, data, outcome, counts, rooms);
+    let s = song_lines(rt, page, s, song);
+    let s = song_tables(rt, page, s, counts, bars, tracks, rows);
+    let s = row_tables(rt, page, s, counts, members, points, texts);
+    closing(rt, page, s, song.version, losses)
 }

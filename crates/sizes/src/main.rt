@@ -17,6 +17,7 @@ use model::{Answer, Sizes};
 use show::form::PAGE;
 use show::input::Input;
 use show::record::{Body, COUNTS, MAGIC, ROOMS, WORDS};
+use std::io;
 
 mod lent; // the tables before a reading, lent, and after it
 
@@ -33,8 +34,6 @@ const WHOLE: [u32; TABLES] = [TABLE as u32; TABLES];
 
 // So many readings of a file that fail are named.
 const NAMED: u32 = 4;
-
-const STDERR: i32 = 2;
 
 // How many entries, by what is needed.
 #[derive(Clone, Copy)]
@@ -182,8 +181,15 @@ fn kept_of(record: &[u32; WORDS], fits: bool) -> [u32; TABLES] {
 }
 
 // The digest of the dump of an answer and its tables.
-fn digest_of(page: &mut [u8; PAGE], file: &[u8], answer: Answer, after: &[u32; ALL]) -> u64 {
+fn digest_of(
+    rt: &impl Print,
+    page: &mut [u8; PAGE],
+    file: &[u8],
+    answer: Answer,
+    after: &[u32; ALL],
+) -> u64 {
     let s = show::dump(
+        rt,
         page,
         show::DIGESTED,
         file,
@@ -195,12 +201,13 @@ fn digest_of(page: &mut [u8; PAGE], file: &[u8], answer: Answer, after: &[u32; A
         tables::entry_of(after, 4, TABLE),
         tables::entry_of(after, 5, TABLE),
     );
-    let s = show::flush(page, s);
+    let s = show::flush(rt, page, s);
     s.digest
 }
 
 // Whether the answer is what it must be. The list has a dump's digest for a file that is read alone.
 fn is_answer(
+    rt: &impl Print,
     page: &mut [u8; PAGE],
     file: &[u8],
     record: &[u32; WORDS],
@@ -210,7 +217,7 @@ fn is_answer(
 ) -> bool {
     let mut digest: u64 = 0;
     if fits {
-        digest = digest_of(page, file, answer, after);
+        digest = digest_of(rt, page, file, answer, after);
     }
     let mut words = [0u32; WORDS];
     show::record::answer_words(&mut words, record[0], record[1], answer, digest);
@@ -220,6 +227,7 @@ fn is_answer(
 // One reading, with tables of these sizes. What is wrong with it: nothing (0), the words of a table (its number from 1 on), or
 // the answer or its dump.
 fn fault_of(
+    rt: &impl Print,
     page: &mut [u8; PAGE],
     file: &[u8],
     record: &[u32; WORDS],
@@ -230,18 +238,25 @@ fn fault_of(
     let fits = enough(sizes, sizes_of(rooms_of(record), Entries::Needed));
     let mut after = [0u32; ALL];
     let answer = lent::lend(&mut after, file, sizes, reading);
-    if !is_answer(page, file, record, fits, answer, &after) {
+    if !is_answer(rt, page, file, record, fits, answer, &after) {
         return ANSWER;
     }
     lent::wrong_table(&after, right, kept_of(record, fits), reading)
 }
 
 // A line that says with which sizes a reading of an input failed, and what is wrong with it.
-fn name_fault(page: &mut [u8; PAGE], number: u32, sizes: [u32; TABLES], fault: u32) {
+fn name_fault(
+    rt: &impl Print,
+    page: &mut [u8; PAGE],
+    number: u32,
+    sizes: [u32; TABLES],
+    fault: u32,
+) {
     let words = [
         number, sizes[0], sizes[1], sizes[2], sizes[3], sizes[4], sizes[5], fault,
     ];
     let s = show::entries(
+        rt,
         page,
         show::PRINTED,
         b"input #0, lent bars=#1 tracks=#2 rows=#3 members=#4 points=#5 texts=#6 words: \
@@ -250,11 +265,12 @@ fn name_fault(page: &mut [u8; PAGE], number: u32, sizes: [u32; TABLES], fault: u
         8,
         1,
     );
-    show::flush(page, s);
+    show::flush(rt, page, s);
 }
 
 // One reading more.
 fn trial(
+    rt: &impl Print,
     page: &mut [u8; PAGE],
     file: &[u8],
     record: &[u32; WORDS],
@@ -263,7 +279,7 @@ fn trial(
     tally: Tally,
 ) -> Tally {
     let readings = tables::up(tally.readings);
-    let fault = fault_of(page, file, record, right, sizes, tally.readings);
+    let fault = fault_of(rt, page, file, record, right, sizes, tally.readings);
     if fault == 0 {
         return Tally {
             readings,
@@ -271,7 +287,7 @@ fn trial(
         };
     }
     if tally.failed < NAMED {
-        name_fault(page, record[0], sizes, fault);
+        name_fault(rt, page, record[0], sizes, fault);
     }
     Tally {
         readings,
@@ -281,6 +297,7 @@ fn trial(
 
 // One table of every size, from an entry more than needed down to none; the five others whole.
 fn every_size(
+    rt: &impl Print,
     page: &mut [u8; PAGE],
     file: &[u8],
     record: &[u32; WORDS],
@@ -294,12 +311,13 @@ fn every_size(
     while 0 < left {
         left -= 1;
         let sizes = whole_but(table, left);
-        tally = trial(page, file, record, right, sizes, tally);
+        tally = trial(rt, page, file, record, right, sizes, tally);
     }
     tally
 }
 
 fn every_table(
+    rt: &impl Print,
     page: &mut [u8; PAGE],
     file: &[u8],
     record: &[u32; WORDS],
@@ -309,14 +327,20 @@ fn every_table(
     let mut tally = from;
     let mut table: usize = 0;
     while table < TABLES {
-        tally = every_size(page, file, record, right, table, tally);
+        tally = every_size(rt, page, file, record, right, table, tally);
         table += 1;
     }
     tally
 }
 
 // A line of what was read: the rooms are those that the reader named.
-fn name_file(page: &mut [u8; PAGE], record: &[u32; WORDS], rooms: Sizes, tally: Tally) {
+fn name_file(
+    rt: &impl Print,
+    page: &mut [u8; PAGE],
+    record: &[u32; WORDS],
+    rooms: Sizes,
+    tally: Tally,
+) {
     let words = [
         record[0],
         record[1],
@@ -330,6 +354,7 @@ fn name_file(page: &mut [u8; PAGE], record: &[u32; WORDS], rooms: Sizes, tally: 
         tally.failed,
     ];
     let s = show::entries(
+        rt,
         page,
         show::PRINTED,
         b"input #0, #1 bytes, rooms bars=#2 tracks=#3 rows=#4 members=#5 points=#6 texts=#7: #8 readings, #9 failed\n",
@@ -337,12 +362,12 @@ fn name_file(page: &mut [u8; PAGE], record: &[u32; WORDS], rooms: Sizes, tally: 
         10,
         1,
     );
-    show::flush(page, s);
+    show::flush(rt, page, s);
 }
 
 // Every reading of a file. The first, into whole tables, leaves the right words; the second, into tables that held others, holds
 // them to the list. A file for which the tables are too small here has failed.
-fn try_file(page: &mut [u8; PAGE], file: &[u8], record: &[u32; WORDS]) -> Tally {
+fn try_file(rt: &impl Print, page: &mut [u8; PAGE], file: &[u8], record: &[u32; WORDS]) -> Tally {
     let needed = rooms_of(record);
     let exact = sizes_of(needed, Entries::Needed);
     let short = sizes_of(needed, Entries::OneLess);
@@ -355,18 +380,18 @@ fn try_file(page: &mut [u8; PAGE], file: &[u8], record: &[u32; WORDS]) -> Tally 
     };
     if enough(WHOLE, sizes_of(needed, Entries::OneMore)) {
         t.failed = 0;
-        t = trial(page, file, record, &right, WHOLE, t);
-        t = trial(page, file, record, &right, exact, t);
-        t = trial(page, file, record, &right, short, t);
-        t = trial(page, file, record, &right, [0; TABLES], t);
-        t = every_table(page, file, record, &right, t);
+        t = trial(rt, page, file, record, &right, WHOLE, t);
+        t = trial(rt, page, file, record, &right, exact, t);
+        t = trial(rt, page, file, record, &right, short, t);
+        t = trial(rt, page, file, record, &right, [0; TABLES], t);
+        t = every_table(rt, page, file, record, &right, t);
     }
-    name_file(page, record, rooms, t);
+    name_file(rt, page, record, rooms, t);
     t
 }
 
 // Every record, as far as the list goes.
-fn try_all(page: &mut [u8; PAGE], list: &[u8], count: u32) -> Tried {
+fn try_all(rt: &impl Print, page: &mut [u8; PAGE], list: &[u8], count: u32) -> Tried {
     let mut at = Place::At(8);
     let mut readings: u32 = 0;
     let mut failed: u32 = 0;
@@ -379,7 +404,7 @@ fn try_all(page: &mut [u8; PAGE], list: &[u8], count: u32) -> Tried {
             };
         };
         let record = record_at(list, at);
-        let one = try_file(page, bin::text(list, start, end), &record);
+        let one = try_file(rt, page, bin::text(list, start, end), &record);
         readings = std::num::wrapping_add_u32(readings, one.readings);
         failed = std::num::wrapping_add_u32(failed, one.failed);
         at = Place::At(end);
@@ -391,30 +416,27 @@ fn try_all(page: &mut [u8; PAGE], list: &[u8], count: u32) -> Tried {
     }
 }
 
-fn sizes(input: &mut [u8; ROOM]) {
-    let Input::Bytes(n) = show::input::read(input) else {
-        io::write_all(STDERR, b"sizes: standard input could not be read\n");
-        return;
+fn sizes(rt: &(impl io::Input + Print + Eprint), input: &mut [u8; ROOM]) -> io::Result<()> {
+    let Input::Bytes(n) = show::input::read(&mut rt.reader(), input) else {
+        return rt.eprintln("sizes: standard input could not be read");
     };
     let list = bin::text(input, 0, n);
     if bin::u32_at(list, Place::At(0)).value != MAGIC {
-        io::write_all(STDERR, b"sizes: no list\n");
-        return;
+        return rt.eprintln("sizes: no list");
     }
-    let mut page = io::large_buffer();
+    let mut page = [0u8; PAGE];
     let count = bin::u32_at(list, Place::At(4)).value;
-    let all = try_all(&mut page, list, count);
+    let all = try_all(rt, &mut page, list, count);
     let next = all.next;
     let Place::At(end) = next else {
-        io::write_all(STDERR, b"sizes: the list ends within a record\n");
-        return;
+        return rt.eprintln("sizes: the list ends within a record");
     };
     if end != n {
-        io::write_all(STDERR, b"sizes: the list goes on after its last record\n");
-        return;
+        return rt.eprintln("sizes: the list goes on after its last record");
     }
     let words = [count, all.tally.readings, all.tally.failed];
     let s = show::entries(
+        rt,
         &mut page,
         show::PRINTED,
         b"sizes: #0 files, #1 readings, #2 failed\n",
@@ -422,10 +444,11 @@ fn sizes(input: &mut [u8; ROOM]) {
         3,
         1,
     );
-    show::flush(&page, s);
+    show::flush(rt, &page, s);
+    Ok(())
 }
 
-fn main() {
+fn main(rt: HostRuntime) -> io::Result<()> {
     let mut input = [0u8; ROOM];
-    sizes(&mut input);
+    sizes(&rt, &mut input)
 }

@@ -1,7 +1,7 @@
 // Writes docs/TABLES.md: the text on standard input, with the words of one example entry of each table, in order, where it has a '~'.
 #![tactic(auto)]
 
-ghost use Rattle.std.specs.Prelude.{◌≤◌, length};
+ghost use Rattle.std.specs.Prelude.{◌≤◌, length, IfOk};
 
 use format::Range;
 use model::{
@@ -10,10 +10,13 @@ use model::{
     OttavaMarks, Passes, PerMille, Playing, Point, Program, Repeats, Row, RowKind, RowPlace, Span,
     TabPosition, Technique, TechniqueText, Tempo, Text, Ties, Time, Track, Tunings, Tuplet, marks,
 };
-
-const STDOUT: i32 = 1;
+use std::io;
+use std::io::Read;
 
 const MARK: u8 = b'~';
+
+// Bytes of the page's text, at most.
+const TEXT: usize = 65536;
 
 // 6/8 in C minor, both new; a repeat ends; ending 2 for passes 2 and 3 begins; a marker; "dal segno al coda"; 96 to the minute.
 fn a_bar() -> Bar {
@@ -192,30 +195,44 @@ fn store_members_points_texts(words: &mut [u32])
     entries::texts::store_text(&mut words[72..76], 0, a_text());
 }
 
+// Input as far as there is room for it; gives how many bytes it has.
+fn read_full(from: &mut impl Read, room: &mut [u8]) -> io::Result<usize>
+    ensures { IfOk result (λ n. n ≤ length room.new) }
+{
+    let mut n: usize = 0;
+    while n < room.len() {
+        let more = from.read(&mut room[n..])?;
+        if more == 0 {
+            return Ok(n);
+        }
+        n += more;
+    }
+    Ok(n)
+}
+
 // A byte of the text, or the word in its place; gives the number of the next word.
-fn write_byte(byte: u8, words: &[u32], k: u32) -> u32 {
+fn write_byte(rt: &impl Print, byte: u8, words: &[u32], k: u32) -> io::Result<u32> {
     if byte == MARK {
-        io::print_decimal(STDOUT, tables::load(words, k as usize) as u64);
-        return tables::up(k);
+        rt.print(tables::load(words, k as usize))?;
+        return Ok(tables::up(k));
     }
-    io::write_all(STDOUT, &[byte]);
-    k
+    rt.write_all(&[byte])?;
+    Ok(k)
 }
 
-fn write_filled(text: &[u8], words: &[u32]) {
+fn write_filled(rt: &impl Print, text: &[u8], words: &[u32]) -> io::Result<()> {
     let mut k: u32 = 0;
-    let mut i: usize = 0;
-    while i < text.len() {
-        k = write_byte(text[i], words, k);
-        i += 1;
+    for byte in text {
+        k = write_byte(rt, *byte, words, k)?;
     }
+    Ok(())
 }
 
-fn main() {
+fn main(rt: HostRuntime) -> io::Result<()> {
     let mut words = [0u32; 76];
     store_bars_tracks_rows(&mut words);
     store_members_points_texts(&mut words);
-    let mut text = io::large_buffer();
-    let n = io::read_full(0, &mut text);
-    write_filled(&text[..n], &words);
+    let mut text = [0u8; TEXT];
+    let n = read_full(&mut rt.reader(), &mut text)?;
+    write_filled(&rt, &text[..n], &words)
 }
