@@ -7,7 +7,7 @@ use mathlib.Core.Logic.{◌↔◌}
 use mathlib.Core.Path.{◌≡◌, ap, sym, ◌∙◌}
 use mathlib.Core.List.{List, ◌∷◌, ◌++◌, append_assoc}
 use lib.ListN.{length, get_or, take, drop, length-append, length-take, length-drop, take-append-drop}
-use lib.Seq.{slice, slice-cons, slice_empty, drop-drop, drop_at, take_at, drop-cons, length-take-le}
+use lib.Seq.{slice, slice-cons, slice_empty, drop-drop, drop_at, take_at, length-take-le}
 use Rattle.format.specs.Step.{width, handed, seen, judged}
 use Rattle.format.specs.Prog.{Prog, ret, refuse, read, ok, run}
 use Rattle.format.specs.Fits.{Fits, fit_ret, fit_read, Begins}

@@ -10,7 +10,7 @@ use borrow.Author.Tests.{le-leb}
 use Rattle.format.specs.Step.{Step, width, Handed, seen, Keeps, Signs}
 use Rattle.format.specs.Prog.{Prog, ret, refuse, read, Res, ok, stopped, run, bind, turns, when_le}
 use Rattle.format.specs.Alike.{Kept, Signed}
-use Rattle.format.specs.Passed.{Skips, here, later, Skipped, Share, kept, signed, skipped, Stands, itself, first, then}
+use Rattle.format.specs.Passed.{Skips, here, later, Share, kept, signed, skipped, Stands, itself, first, then}
 use Rattle.format.proofs.Run.{and_then, run_bind, clash, ret_ok, refuse_ok, read_ok}
 use Rattle.format.proofs.Step.{keeps_within, signs_within, passes_within, Over, one_of_three}
 use Rattle.format.proofs.Step.{signs_not_kept, passes_not_kept, passes_not_signed}

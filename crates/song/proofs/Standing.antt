@@ -2,7 +2,7 @@
 use Prim.Native.Nat.{ℕ, ◌≤◌}
 use mathlib.Core.List.{List}
 use Rattle.format.specs.Prog.{Prog}
-use Rattle.format.specs.Fields.{fixed_string, int_byte_string_unused, int_string}
+use Rattle.format.specs.Fields.{fixed_string}
 use Rattle.model.specs.declared.Tempo.{Tempo}
 use Rattle.model.specs.declared.LyricLine.{LyricLine}
 use Rattle.model.specs.declared.Lyrics.{Lyrics}

@@ -6,7 +6,7 @@ use mathlib.Core.Logic.{◌↔◌}
 use mathlib.Core.Path.{◌≡◌, refl, ap, sym, ◌∙◌}
 use mathlib.Core.List.{List, [], ◌∷◌, ◌++◌}
 use mathlib.Core.Option.{Option, none, some}
-use lib.ListN.{length, get_or, take, drop, length-append, length-take, get_or-eq_default}
+use lib.ListN.{length, take, drop, length-append, length-take, get_or-eq_default}
 use lib.Seq.{drop-append_seam, take_at, get_or-drop, get_or-take}
 use borrow.Author.Tests.{le-leb, lt-leb}
 use Rattle.format.specs.declared.Range.{Range}

@@ -1,6 +1,5 @@
 -- What is left of the tunings.
 use borrow.Author.Rules.{rules}
-use Prim.Native.Nat.{◌-◌}
 use lib.ListN.{length-set}
 use Rattle.format.proofs.Rules.{turning, then, done}
 use Rattle.track.specs.Track.{no_tunings, next_tuning, tunings}

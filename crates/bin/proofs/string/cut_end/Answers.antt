@@ -1,7 +1,6 @@
 -- What is left to the first zero is as long as it was from the start.
 use borrow.Author.Rules.{rules}
 use native.Mathlib.Omega.{arith}
-use Prim.Native.Nat.{◌-◌}
 use Rattle.format.proofs.Text.{cut_found, cut_on, cut_out}
 use Rattle.bin.proofs.string.cut_end.Goals as goal
 

@@ -1,7 +1,6 @@
 -- What is left of the blanks is as long as it was from the start.
 use borrow.Author.Rules.{rules}
 use native.Mathlib.Omega.{arith}
-use Prim.Native.Nat.{◌-◌}
 use Rattle.format.proofs.Text.{lead_found, lead_on, lead_out}
 use Rattle.format.proofs.Rules.{said}
 use Rattle.bin.proofs.string.lead_end.Goals as goal

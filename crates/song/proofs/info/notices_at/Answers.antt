@@ -1,6 +1,5 @@
 -- What is left of the notices.
 use borrow.Author.Rules.{rules}
-use Prim.Native.Nat.{◌-◌}
 use Rattle.format.proofs.Rules.{turning, reading}
 use Rattle.song.specs.Info.{notices}
 use Rattle.song.proofs.info.notices_at.Goals as goal

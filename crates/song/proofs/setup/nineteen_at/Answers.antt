@@ -1,6 +1,5 @@
 -- What is left of the bar numbers.
 use borrow.Author.Rules.{rules}
-use Prim.Native.Nat.{◌-◌}
 use lib.ListN.{length-set}
 use Rattle.format.proofs.Rules.{turning, then, done}
 use Rattle.song.specs.Setup.{no_directions, next_direction, nineteen}

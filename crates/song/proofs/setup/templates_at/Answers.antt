@@ -1,6 +1,5 @@
 -- What is left of the templates.
 use borrow.Author.Rules.{rules}
-use Prim.Native.Nat.{◌-◌}
 use Rattle.format.proofs.Rules.{turning}
 use Rattle.song.specs.Setup.{templates}
 use Rattle.song.proofs.setup.templates_at.Goals as goal

@@ -1,5 +1,4 @@
 -- What is left of the digits is as long as it was from the start.
-use Prim.Native.Nat.{◌-◌}
 use Rattle.format.proofs.Rules.{said}
 use Rattle.song.proofs.Digits.{end_found, end_on, end_out}
 use Rattle.song.proofs.version.digits_end.Goals as goal

@@ -1,7 +1,6 @@
 -- What is left of the digits makes the number that all of them make.
 use borrow.Author.Rules.{rules}
 use native.Mathlib.Omega.{arith}
-use Prim.Native.Nat.{◌-◌}
 use Rattle.format.proofs.Rules.{said, said_yes}
 use Rattle.song.proofs.Digits.{digit_low, digit_high, value_found, value_on, value_over, value_out}
 use Rattle.song.proofs.version.digits_value.Goals as goal

@@ -1,6 +1,5 @@
 -- What is left to compare decides as the whole does.
 use borrow.Author.Rules.{rules}
-use Prim.Native.Nat.{◌-◌}
 use mathlib.Core.Path.{refl}
 use Rattle.song.proofs.Digits.{start_ends, start_not, start_on, start_out}
 use Rattle.song.proofs.version.starts_with.Goals as goal

@@ -1,5 +1,4 @@
 -- What is left of both begins as all of it does.
-use Prim.Native.Nat.{◌-◌}
 use mathlib.Core.Path.{refl}
 use Rattle.utf8.proofs.Turns.{begins_longer, begins_not, begins_on, begins_out}
 use borrow.Author.Rules.{rules}

@@ -1,5 +1,4 @@
 -- What is left of the index gives the byte that all of it gives.
-use Prim.Native.Nat.{◌-◌}
 use mathlib.Core.Path.{refl}
 use Rattle.utf8.specs.Characters.{index}
 use Rattle.utf8.proofs.Front.{placed_here, placed_on, placed_nowhere, byte_low, byte_placed}

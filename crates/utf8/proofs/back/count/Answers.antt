@@ -1,5 +1,4 @@
 -- The characters passed, and those that are left.
-use Prim.Native.Nat.{◌-◌}
 use native.Mathlib.Omega.{arith}
 use mathlib.Core.Path.{◌∙◌}
 use Rattle.utf8.specs.Back.{back}

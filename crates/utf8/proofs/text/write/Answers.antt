@@ -1,5 +1,4 @@
 -- Character by character.
-use Prim.Native.Nat.{◌-◌}
 use native.Mathlib.Omega.{arith}
 use mathlib.Core.Path.{refl, ◌∙◌}
 use lib.Seq.{length-sets}

@@ -1,0 +1,6 @@
+-- What `utf8` gives, and its answer in words.
+use Rattle.export.proofs.titles.fungusleigh_to_utf8.Goals as goal
+
+pub returns : goal.returns
+returns c =
+    (c.to_utf8-coded.ensures.1, rw c.to_utf8-coded.ensures.0 at c.say.ensures)
