@@ -11,5 +11,4 @@ returns-then-v-lt500 c =
 
 pub returns : goal.returns
 unfolding wah not_negative
-returns c =
-    search reading
+returns c = search reading
