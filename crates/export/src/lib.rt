@@ -54,8 +54,7 @@ pub extern "C" fn fungusleigh_read(
     texts: &mut [u32],
     said: &mut [u32],
 )
-    ensures {
-        let before = reader.tables bars.old tracks.old rows.old members.old points.old texts.old in
+    ensures { let before = reader.tables bars.old tracks.old rows.old members.old points.old texts.old in
         let after = reader.tables bars.new tracks.new rows.new members.new points.new texts.new in
         let read = reading «data».now before in
         (after ≡ read.tables) × (said.new ≡ sets said.old 0 (said_words read.answer)) }

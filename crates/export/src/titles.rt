@@ -31,8 +31,7 @@ pub extern "C" fn fungusleigh_to_utf8(
     out: &mut [u8],
     said: &mut [usize],
 )
-    ensures {
-        let coding = to_utf8 «data».now (record { start = start; end = end }) out.old in
+    ensures { let coding = to_utf8 «data».now (record { start = start; end = end }) out.old in
         (out.new ≡ coding.buffer) × (said.new ≡ sets said.old 0 (coded_words coding.coded)) }
 {
     let coded = utf8::to_utf8(data, Range { start, end }, out);
@@ -41,8 +40,7 @@ pub extern "C" fn fungusleigh_to_utf8(
 
 #[unsafe(no_mangle)]
 pub extern "C" fn fungusleigh_from_utf8(data: &[u8], out: &mut [u8], said: &mut [usize])
-    ensures {
-        let coding = from_utf8 «data».now out.old in
+    ensures { let coding = from_utf8 «data».now out.old in
         (out.new ≡ coding.buffer) × (said.new ≡ sets said.old 0 (coded_words coding.coded)) }
 {
     let coded = utf8::from_utf8(data, out);

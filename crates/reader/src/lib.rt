@@ -61,8 +61,7 @@ fn fill(
     points: &mut [u32],
     texts: &mut [u32],
 ) -> Answer
-    ensures {
-        let before = tables bars.old tracks.old rows.old members.old points.old texts.old in
+    ensures { let before = tables bars.old tracks.old rows.old members.old points.old texts.old in
         let after = tables bars.new tracks.new rows.new members.new points.new texts.new in
         Fills s.now before after result }
 {
@@ -87,8 +86,7 @@ pub fn read(
     points: &mut [u32],
     texts: &mut [u32],
 ) -> Answer
-    ensures {
-        let before = tables bars.old tracks.old rows.old members.old points.old texts.old in
+    ensures { let before = tables bars.old tracks.old rows.old members.old points.old texts.old in
         let after = result_of result bars.new tracks.new rows.new members.new points.new texts.new in
         Promise «data».now before after }
 {

@@ -1,5 +1,5 @@
 -- What the theorems rest on: the outcome of a file's fields, and the result that it comes to. Laws only.
-use Prim.Native.Nat.{ℕ, ◌+◌, ◌≤◌, ◌<◌}
+use Prim.Native.Nat.{ℕ, ◌≤◌, ◌<◌}
 use native.Mathlib.Omega.{arith}
 use native.Mathlib.Decide.{dec_le}
 use mathlib.Core.Logic.{inl, inr}

@@ -3,7 +3,6 @@ use Prim.Native.Nat.{ℕ, zero, suc, ◌+◌, ◌*◌, ◌-◌, ◌%◌, ◌<◌
 use native.Mathlib.Omega.{arith}
 use native.Mathlib.Nat.{mod-eq_of_lt}
 use mathlib.Core.Path.{◌≡◌, refl, sym, ap, ◌∙◌}
-use mathlib.Core.Bool.{false}
 use mathlib.Core.List.{List, [], ◌∷◌}
 use lib.ListN.{length, get_or, set, drop, length-set}
 use lib.Seq.{sets, length-sets, set-set, set_comm, get_or-set_same, get_or-set_other, get_or-drop}
@@ -16,11 +15,10 @@ use Rattle.format.proofs.Rules.{turn_on, turns_start, turns_still, turns_done}
 use Rattle.model.specs.Kinds.{flag_of}
 use Rattle.score.specs.declared.Fretboard.{Fretboard}
 use Rattle.score.specs.declared.Hammer.TheVariants.{NoHammer, Waits}
-use Rattle.score.specs.declared.LastFret.{LastFret}
 use Rattle.score.specs.declared.Tally.{Tally}
 use Rattle.score.specs.declared.Voice.{Voice}
 use Rattle.score.specs.Page.{Walk}
-use Rattle.words.specs.Words.{Words, part_stride, running_place, voice_place, fret_of, hammer_of, voice_words, voice_from, board_from}
+use Rattle.words.specs.Words.{Words, part_stride, running_place, voice_place, fret_of, hammer_of, voice_words, voice_from}
 use Rattle.words.specs.Voices.{voice_in}
 use Rattle.words.specs.Meant.{walk_of}
 use Rattle.refine.proofs.Parts.{LastFits, HammerFits, VoiceFits, voice_length}

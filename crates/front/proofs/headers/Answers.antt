@@ -1,6 +1,5 @@
 -- Header by header.
 use borrow.Author.Rules.{rules}
-use Prim.Native.Nat.{◌-◌}
 use native.Mathlib.Omega.{arith}
 use mathlib.Core.Path.{refl}
 use Rattle.format.proofs.Rules.{turn_on, turns_done, turns_start, turns_still}

@@ -1,7 +1,6 @@
 -- Beat by beat.
-use Prim.Native.Nat.{◌+◌, ◌-◌}
+use Prim.Native.Nat.{◌+◌}
 use native.Mathlib.Omega.{arith}
-use mathlib.Core.Logic.{inl, inr}
 use Rattle.walk.specs.Entering.{count_step, Counts}
 use Rattle.walk.proofs.Walks.{Counting, counts_beat, counts_as, counting_starts, counting_on, counting_stops, counting_ends}
 use Rattle.walk.proofs.count_beats.Goals as goal

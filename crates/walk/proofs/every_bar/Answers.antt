@@ -1,5 +1,4 @@
 -- Bar by bar.
-use Prim.Native.Nat.{◌-◌}
 use native.Mathlib.Omega.{arith}
 use mathlib.Core.Path.{refl}
 use Rattle.format.proofs.Rules.{turn_on, turns_done, turns_start, turns_still}

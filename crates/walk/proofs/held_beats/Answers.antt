@@ -1,8 +1,6 @@
 -- Beat by beat.
-use Prim.Native.Nat.{◌-◌}
 use native.Mathlib.Omega.{arith}
 use mathlib.Core.Path.{refl}
-use mathlib.Core.Bool.{false}
 use Rattle.score.specs.File.{one_beat}
 use Rattle.walk.proofs.Held.{holding_starts, holding_on, holding_stops, holding_ends}
 use Rattle.walk.proofs.held_beats.Goals as goal

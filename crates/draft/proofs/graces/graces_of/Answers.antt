@@ -1,7 +1,6 @@
 -- Note by note.
 use borrow.Author.Rules.{rules}
 use native.Mathlib.Omega.{arith}
-use Prim.Native.Nat.{◌-◌}
 use mathlib.Core.Path.{◌∙◌}
 use lib.ListN.{drop_of_length-le}
 use Rattle.draft.specs.Chord.{chord_in}

@@ -1,11 +1,10 @@
 -- Note by note.
 use borrow.Author.Rules.{rules}
 use native.Mathlib.Omega.{arith}
-use Prim.Native.Nat.{ℕ, ◌-◌}
+use Prim.Native.Nat.{ℕ}
 use mathlib.Core.List.{List}
 use mathlib.Core.Path.{◌≡◌, ◌∙◌}
 use mathlib.Core.Bool.{false}
-use mathlib.Core.Logic.{inl, inr}
 use lib.ListN.{drop_of_length-le}
 use Rattle.draft.specs.Chord.{chord_in}
 use Rattle.model.specs.Marks.{added_in}

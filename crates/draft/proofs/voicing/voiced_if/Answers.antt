@@ -16,5 +16,8 @@ returns c =
     let a = c.args in
     let e = effects_in a.v a.b.now in
     let no = neither x.result y.result c.if-beat_harmonic-any_voiced.false in
-    let plain : beat_harmonic e ≡ false = rw x.ensures at no.0 in record { played = λ s. sym (y.ensures s a.v no.1).playing; marks = λ s. rw c.none_added.ensures
-          (quiet_marks e (chord_in s a.v a.notes.now a.chord.now) (y.ensures s a.v no.1) plain) }
+    let plain : beat_harmonic e ≡ false = rw x.ensures at no.0 in record {
+      played = λ s. sym (y.ensures s a.v no.1).playing;
+      marks = λ s. rw c.none_added.ensures
+          (quiet_marks e (chord_in s a.v a.notes.now a.chord.now) (y.ensures s a.v no.1) plain);
+    }

@@ -1,6 +1,5 @@
 -- What is left of both is the same as all of them is.
 use borrow.Author.Rules.{rules}
-use Prim.Native.Nat.{◌-◌}
 use mathlib.Core.Path.{refl}
 use Rattle.into_bars.proofs.Bytes.{same_longer, same_found, same_on, same_out}
 use Rattle.into_bars.proofs.texts.same_bytes.Goals as goal

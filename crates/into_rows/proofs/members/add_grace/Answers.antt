@@ -14,5 +14,9 @@ pub returns : goal.returns
 returns c =
     let string = c.string_of.ensures.0 in
     let a = c.args in
-    let one = c.in-Before.is in record { next = omega arith; number = λ s v. rw (the_grace s v a.notes.now a.struck string (c.grace-given.ensures v) one); stored = λ s v. grace_stored s v a.notes.now a.board a.flat a.struck a.members.now a.n string
-            (c.grace-given.ensures v) one (c.grace_member-member.ensures s v) c.store_member.ensures }
+    let one = c.in-Before.is in record {
+      next = omega arith;
+      number = λ s v. rw (the_grace s v a.notes.now a.struck string (c.grace-given.ensures v) one);
+      stored = λ s v. grace_stored s v a.notes.now a.board a.flat a.struck a.members.now a.n string
+          (c.grace-given.ensures v) one (c.grace_member-member.ensures s v) c.store_member.ensures;
+    }

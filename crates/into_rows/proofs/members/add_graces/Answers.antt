@@ -1,7 +1,6 @@
 -- Note by note.
 use native.Mathlib.Omega.{arith}
 use native.Mathlib.Nat.{add-zero}
-use Prim.Native.Nat.{◌-◌}
 use mathlib.Core.Path.{refl, ◌∙◌}
 use lib.ListN.{drop_of_length-le}
 use Rattle.draft.specs.Chord.{chord_in}
@@ -35,6 +34,9 @@ unfolding chord_in
 returns c =
     let a = c.args in
     let l = c.loop-i in
-    let end = drop_of_length-le a.chord.now {i = l.i} (omega arith) in record { number = λ s v.
+    let end = drop_of_length-le a.chord.now {i = l.i} (omega arith) in record {
+      number = λ s v.
           let sum = rw (end, add-zero) at (l.invariant.4 s v) in
-          omega (arith, sum); stored = λ s v. rw (no_fingers a.board a.flat (graces_in s v a.notes.now a.chord.now)) (rw end at (l.invariant.5 s v)) }
+          omega (arith, sum);
+      stored = λ s v. rw (no_fingers a.board a.flat (graces_in s v a.notes.now a.chord.now)) (rw end at (l.invariant.5 s v));
+    }

@@ -1,7 +1,6 @@
 -- Member by member.
 use native.Mathlib.Omega.{arith}
 use native.Mathlib.Nat.{add-zero}
-use Prim.Native.Nat.{◌-◌}
 use mathlib.Core.Path.{refl, ◌∙◌}
 use lib.ListN.{drop_of_length-le}
 use Rattle.into_rows.proofs.Gathering.{all_fingered, next_member}

@@ -1,6 +1,5 @@
 -- Note by note.
 use native.Mathlib.Omega.{arith}
-use Prim.Native.Nat.{◌-◌}
 use mathlib.Core.Path.{refl, ◌∙◌}
 use lib.ListN.{drop_of_length-le}
 use Rattle.draft.specs.Chord.{chord_in}

@@ -1,5 +1,4 @@
 -- Point by point, each put among those before it.
-use Prim.Native.Nat.{◌-◌}
 use mathlib.Core.Path.{◌≡◌}
 use mathlib.Core.List.{[], map}
 use Rattle.curve.specs.Bend.{inserts}

@@ -1,9 +1,7 @@
 -- Piece by piece.
-use mathlib.Core.Path.{◌≡◌, ◌∙◌}
-use lib.ListN.{length}
+use mathlib.Core.Path.{◌∙◌}
 use native.Mathlib.Omega.{arith}
 use Rattle.into_tracks.proofs.Places.{no_words_lem, part_shown}
-use borrow.Author.Rules.{rules}
 use Rattle.into_tracks.proofs.parts.add_part.Goals as goal
 
 pub returns : goal.returns
