@@ -1,4 +1,4 @@
--- An entry with one field changed, and the law that this changes one word of it. With `over-change` and `over-turn` of tables: of one
+-- An entry with one field changed, and the law that this changes one word of it. With `over_turn` of tables: of one
 -- entry among many.
 use Rattle.std.specs.Prelude.{Bool}
 use Rattle.model.specs.declared.Bar.{Bar}

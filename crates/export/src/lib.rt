@@ -1,4 +1,4 @@
-// For a program in another language: a static library (rt staticlib export) of the reader, of the shelf alone (`shelf`) and of texts as UTF-8 (`titles`).
+// For a program in another language: a static library (`rt lib`) of the reader, of the shelf alone (`shelf`) and of texts as UTF-8 (`titles`).
 #![tactic(auto)]
 
 ghost use Rattle.std.specs.Prelude.{◌≡◌};

@@ -1,6 +1,5 @@
 // The frets that a voice remembers, lent: document 01, "The fret memory: first by value, then a thin form that changes one lent
-// memory, as `&mut VoiceState` does". What a reference to a struct asks for is a proof by hand, so the two functions that have one do
-// nothing else: `with_fret` makes the change, and whoever has no memory lent to it calls `remembered`.
+// memory, as `&mut VoiceState` does". `with_fret` makes the change, and whoever has no memory lent to it calls `remembered`.
 #![tactic(auto)]
 
 ghost use Rattle.std.specs.Prelude.{◌≡◌};
@@ -32,7 +31,7 @@ pub fn remember(state: &mut VoiceState, string: usize, fret: u8)
     *state = with_fret(*state, string, fret);
 }
 
-// Lends a memory of its own: neither parameter nor result is a reference, so that callers need no proof by hand.
+// Lends a memory of its own: neither parameter nor result is a reference.
 pub fn remembered(state: VoiceState, string: usize, fret: u8) -> VoiceState
     ensures { result ≡ changed state string fret }
 {

@@ -1,6 +1,6 @@
 -- Document 01, "Bytes passed over", item by item, and what document 02, n, adds: their words stand before each theorem.
 -- Wherever a field stands in a file d, the bytes that the list names of it are passed over in the reading of the whole file; by
--- `kept-or-passed-over` no such byte is kept, and all others are, but for those whose sign alone counts. That the fields stand
+-- `kept_or_passed_over` no such byte is kept, and all others are, but for those whose sign alone counts. That the fields stand
 -- there is said in Standing.antt.
 use Prim.Native.Nat.{ℕ, ◌+◌, ◌*◌, ◌-◌, ◌≤◌, ◌<◌}
 use native.Mathlib.Omega.{arith}
@@ -224,6 +224,6 @@ module _ {d : List ℕ} {at : ℕ} where
   pub instrument : (v : ℕ) → At d (mix_table v) at → Signed scored d 0 at
   instrument v w = stands_signs w at (B.instrument_signed d at v)
 
-  -- "tempo and wah are not.": the tempo's four bytes are kept, and the wah byte is (`wah-kept`)
+  -- "tempo and wah are not.": the tempo's four bytes are kept, and the wah byte is (`wah_kept`)
   pub tempo_kept : At d u32 at → (i : ℕ) → at ≤ i → i < at + 4 → Kept scored d 0 i
   tempo_kept w i l h = stands_keeps w i (F.number_kept 4 d at i l h)

@@ -46,7 +46,7 @@ pub record FrontHas (d : List ℕ) (v : ℕ) : Type 1 where
   pub tempo : In d (tempo v)
 
 -- and its kept texts: the version's, the song's and those of the lyric lines. A marker, a track's name, a chord's and a beat's text are
--- kept strings of the parts below, which have a text by the laws of format (Standing.antt: `fixed-text`, `int-byte-text`, `unused-text`)
+-- kept strings of the parts below, which have a text by the laws of format (Standing.antt: `fixed_text`, `int_byte_text`, `unused_text`)
 pub record FrontTexts (d : List ℕ) (v : ℕ) : Type 1 where
   pub version : HasText d scored 0
   pub names : NamesHas d scored 0
@@ -129,7 +129,7 @@ module _ {d : List ℕ} {x : Score} {n : ℕ} (e : run scored d 0 ≡ ok x n) wh
     lyrics = λ l. lyrics_has l all_parts.parts.lyrics.3;
   }
 
--- ---- inside a header, a track or a beat: what stands in it stands in the file, by `in-file`
+-- ---- inside a header, a track or a beat: what stands in it stands in the file, by `in_file`
 module _ {d : List ℕ} {at n : ℕ} (v : ℕ) where
   -- a header's marker, by flag 0x20 of its first byte
   pub header_parts : (h : HeaderAt d scored 0 v at n) → (flags : ℕ) × (m : ℕ)

@@ -80,7 +80,7 @@ module _ {d : List ℕ} {t : Tables} {r : Result} (p : Promise d t r) where
 -- ==== demand 2
 
 -- "the tables, loss counts and refusals .. are proved equal to document 01's definition": those of a file that is read
--- are its score's; the refusals are in `one-of-seven`
+-- are its score's; the refusals are in `one_of_seven`
 module _ {d : List ℕ} {t : Tables} {r : Result} {x : Score} {n : ℕ} (p : Promise d t r) (b : Beginning d x n)
     (room : enough (needed x) t ≡ true) where
   pub read_is : r ≡ record { answer = file_answer x n; tables = filled t x }
