@@ -13,8 +13,8 @@ is_beat Grace = false
 is_beat Beat = true
 
 -- one voice of one track
-abbrev pub same_voice : (track voice ofTrack of_voice : ℕ) → Bool
-same_voice track voice ofTrack of_voice = eqb track ofTrack && eqb voice of_voice
+abbrev pub same_voice : (track voice of_track of_voice : ℕ) → Bool
+same_voice track voice of_track of_voice = eqb track of_track && eqb voice of_voice
 
 -- the members of a row, from the table of all
 abbrev pub members_of : Row → List Member → List Member
