@@ -35,7 +35,7 @@ use Rattle.draft.specs.declared.graces.Graces.{Graces}
 abbrev pub played_in : List ℕ → PlayedHere → Played
 played_in s p = record { text = p.text; technique = p.technique; bend = bend_in s p.bend }
 
--- `playedWith` of Rows, which looks at the note alone
+-- `played_with` of Rows, which looks at the note alone
 unfoldable pub played_by : NoteIs → Played → Played
 played_by n p =
     let e : NoteEffects = n.read.effects in
@@ -43,7 +43,7 @@ played_by n p =
 
 -- ---- articulations
 
--- `addAll` of Rows, on what a row holds
+-- `added_all` of Rows, on what a row holds
 unfoldable pub add_marks : Articulations → List Articulation → Articulations
 add_marks m [] = m
 add_marks m (a ∷ more) = add_marks (add_mark a m) more
@@ -69,7 +69,7 @@ abbrev pub graces_of : List Graced → Graces
 graces_of gs =
     record { any = any_of gs; text = grace_text gs; technique = grace_technique NoTechnique gs; head = grace_head gs }
 
--- one of `graceTechnique` of Rows
+-- one of `grace_technique` of Rows
 abbrev pub technique_by : (transition : ℕ) → Technique → Technique
 technique_by n t = pick (eqb n 1) Slide (pick (eqb n 3) Hammer t)
 
@@ -87,7 +87,7 @@ abbrev pub graced_if : GraceNote → Graces → Graces
 graced_if NoGrace x = x
 graced_if (Before g) x = graced_by g x
 
--- `graceRow` of Rows but for its members
+-- `grace_row` of Rows but for its members
 unfoldable pub grace_draft : RowPlace → Range → Graces → Draft
 grace_draft place beat x =
     record {

@@ -19,7 +19,7 @@ use Rattle.score.specs.Rows.{RowIs, value_of, row_head}
 abbrev pub no_marks : OttavaMarks
 no_marks = record { start = NoOttava; end = false }
 
--- `beatRow` of Rows where neither the beat nor a note has effects, and the mark is known
+-- `beat_row` of Rows where neither the beat nor a note has effects, and the mark is known
 unfoldable pub plain_row : RowPlace → Fretboard → Bool → Level → BeatIs → List Keyed → RowIs
 plain_row place board flat mark b xs =
     record {

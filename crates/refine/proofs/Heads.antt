@@ -154,15 +154,15 @@ module _ (s : List ℕ) (small : length s ≤ LIMIT) (t : Lent) where
   pub headers_start : (g : Opening) (at : ℕ) → HeadsShown s t 0 (no_bars lists none g) (no_bars (words s) (lent t) g) at
   unfolding no_bars
   headers_start g at =
-      let none_yet_lem : All (UpTo 0) (replicate 17 0) = all_replicate (UpTo 0) 17 0 (omega arith) in
+      let none_yet : All (UpTo 0) (replicate 17 0) = all_replicate (UpTo 0) 17 0 (omega arith) in
       let l : length (song_losses g) ≤ 64 = omega (arith, song_losses_length g) in
       record {
         number = refl;
         bars = sym (over_nil t.bars);
         before = refl;
         first = λ _. refl;
-        losses = report_is s (song_losses g) (replicate 17 0) 0 none_yet_lem (omega arith);
-        few = first_few (song_losses g) l (replicate 17 0) at none_yet_lem;
+        losses = report_is s (song_losses g) (replicate 17 0) 0 none_yet (omega arith);
+        few = first_few (song_losses g) l (replicate 17 0) at none_yet;
         fits = tt;
       }
 

@@ -28,10 +28,10 @@ first_tempo (Bpm n) t = Bpm n
 
 -- on tablature at the same string, otherwise at the first member of equal key
 abbrev pub same_place : TabPosition → TabPosition → Bool → Bool
-same_place (Fretted s f) (Fretted t g) byKey = eqb s t
-same_place (Fretted s f) OffTablature byKey = false
-same_place OffTablature (Fretted t g) byKey = byKey
-same_place OffTablature OffTablature byKey = byKey
+same_place (Fretted s f) (Fretted t g) by_key = eqb s t
+same_place (Fretted s f) OffTablature by_key = false
+same_place OffTablature (Fretted t g) by_key = by_key
+same_place OffTablature OffTablature by_key = by_key
 
 abbrev pub answers : Member → Member → Bool
 answers tied m = same_place tied.position m.position (eqb tied.key m.key)

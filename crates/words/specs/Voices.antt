@@ -14,7 +14,7 @@ voice_in w = voice_from 0 w
 abbrev pub frets_in : List ℕ → List Remembered
 frets_in w = map recalled w
 
--- as `withFrets` of Page
+-- as `with_frets` of Page
 abbrev pub with_hammer : Voice → Hammer → Voice
 with_hammer v hammer = record { frets = v.frets; hammer = hammer; last = v.last; run = v.run }
 

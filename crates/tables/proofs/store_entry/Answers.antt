@@ -5,4 +5,4 @@ use Rattle.tables.proofs.store_entry.Goals as goal
 
 pub returns : goal.returns
 returns c =
-    c.store_words.ensures ∙ sets_start c.before.args.w.now c.before.args.t.now _ _ c.start_of-at.ensures
+    c.store_words.ensures ∙ sets_start c.args.w.now c.args.t.now _ _ c.start_of-at.ensures

@@ -5,4 +5,4 @@ use Rattle.entries.proofs.rows.store_row.Goals as goal
 
 pub returns : goal.returns
 returns c =
-    c.store_words-2.ensures ∙ rw (c.store_words.ensures, c.back_words-back.ensures, c.front_words-front.ensures) (row_stored c.before.args.rows.now c.before.args.x _ _ c.start_of-at.ensures)
+    c.store_words-2.ensures ∙ rw (c.store_words.ensures, c.back_words-back.ensures, c.front_words-front.ensures) (row_stored c.args.rows.now c.args.x _ _ c.start_of-at.ensures)

@@ -6,6 +6,7 @@ use lib.ListN.{length, drop}
 use Rattle.into_rows.proofs.Gracing.{graces_in}
 use Rattle.into_rows.proofs.members.first_grace_key.Given as goal
 
+-- no grace stands before note i
 abbrev pub invariant-loop-i : goal.invariant-loop-i
 invariant-loop-i l = (l.i ≤ length l.chord) × ((s : List ℕ) (v : ℕ) → graces_in s v l.notes (drop l.i l.chord) ≡ graces_in s v l.notes l.chord)
 

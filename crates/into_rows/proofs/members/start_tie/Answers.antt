@@ -13,7 +13,7 @@ pub returns-then-answers : goal.returns-then-answers
 returns-then-answers c =
     let l = c.loop-left in
     c.set_tie_start.ensures
-    ∙ sym (start_here l.i l.left c.before.before.args.tied l.members
+    ∙ sym (start_here l.i l.left c.args.tied l.members
     c.loop-left-test.true
     c.load_field-key.ensures c.load_field-string.ensures (sym c.answers.ensures ∙ c.if-answers.true))
     ∙ l.invariant.2
@@ -23,7 +23,7 @@ loop-left-preserved c =
     let l = c.loop-left in (
       l.invariant.0,
       search rules,
-      sym (start_later l.i l.left c.before.before.args.tied l.members
+      sym (start_later l.i l.left c.args.tied l.members
           c.loop-left-test.true
           c.load_field-key.ensures c.load_field-string.ensures (sym c.answers.ensures ∙ c.if-answers.false))
           ∙ l.invariant.2,

@@ -6,11 +6,11 @@ use Rattle.song.proofs.version.part.Goals as goal
 
 pub returns-then-end-start : goal.returns-then-end-start
 returns-then-end-start c =
-    part_none c.before.args.start c.before.args.end c.before.args.s.now c.if-end-start.true
+    part_none c.args.start c.args.end c.args.s.now c.if-end-start.true
 
 pub returns-then-s-start : goal.returns-then-s-start
 returns-then-s-start c =
-    part_past c.before.args.start c.before.args.end c.before.args.s.now c.if-s-start.true
+    part_past c.args.start c.args.end c.args.s.now c.if-s-start.true
 
 pub returns-then-s-end : goal.returns-then-s-end
 returns-then-s-end c =
