@@ -1,18 +1,16 @@
 -- What the words of a beat mean. Its bytes and numbers stand in words of their own, as the file has them, in the file's order;
 -- the definitions of the format say what is made of them.
-use Rattle.std.specs.Prelude.{ℕ, ◌+◌, ◌%◌, ◌≡◌, List, Bool, true, false, ◌&&◌, ◌||◌, get_or, leb, ltb, eqb}
+use Rattle.std.specs.Prelude.{ℕ, ◌+◌, ◌%◌, ◌≡◌, List, Bool, true, false, ◌&&◌, ◌||◌, get_or, leb, ltb, eqb, None}
 use Rattle.std.specs.Int.Bits.{bit_and}
 use Rattle.model.specs.declared.Arpeggio.{Arpeggio}
 use Rattle.model.specs.declared.Arpeggio.TheVariants.{NoArpeggio}
 use Rattle.model.specs.declared.Ottava.{Ottava}
-use Rattle.model.specs.declared.Tempo.TheVariants.{NoTempo}
 use Rattle.model.specs.Kinds.{tempo_from, flag_of}
-use Rattle.format.specs.declared.Place.{Place}
 use Rattle.format.specs.declared.Range.{Range}
 use Rattle.format.specs.Text.{TextRead, text_in, pick}
 use Rattle.format.specs.Prog.{Prog, ret, bind, has}
 use Rattle.format.specs.Fields.{u8}
-use Rattle.format.specs.Place.{Reaches}
+use Rattle.format.specs.Place.{Place, Reaches}
 use Rattle.format.specs.Padded.{Arrives}
 use Rattle.note.specs.Optional.{more_flags}
 use Rattle.note.specs.Words.{byte_in, notes_in, Kept}
@@ -133,7 +131,7 @@ effects_in v b = effects_with v (byte_in b EFFECTS) (byte_in b MORE_EFFECTS) b
 unfoldable pub mix_by : Bool → List ℕ → Mix
 mix_by given b =
     record {
-      tempo = pick given (tempo_from (number_in b TEMPO)) NoTempo;
+      tempo = pick given (tempo_from (number_in b TEMPO)) None;
       wah_lost = pick given (flag_of (byte_in b WAH)) false;
       change_lost = pick given (flag_of (byte_in b CHANGE)) false;
     }

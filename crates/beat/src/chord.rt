@@ -1,72 +1,62 @@
 // The name of a beat's chord, without the diagram around it, and the text of a beat.
+ghost use Rattle.std.specs.Prelude.{Ok};
 ghost use Rattle.format.specs.Text.{text_in};
-ghost use Rattle.format.specs.Place.{Reaches};
+ghost use Rattle.format.specs.Place.{Reaches, ReadsAs};
 ghost use Rattle.beat.specs.Chord as format;
 ghost use Rattle.beat.specs.Words as meaning;
 
 use crate::places;
 use crate::places::{Beat, put_range};
-use bin::string::StringRead;
-use format::Place;
+use format::{Place, Range, Reading};
 
 // A name of fixed width, between the bytes of its diagram.
-fn diagram_name(s: &[u8], from: Place, lead: usize, width: usize, rest: usize) -> StringRead
-    ensures { Reaches (format.diagram lead width rest) s.now from (text_in s.now result.range) result.next }
+fn diagram_name(s: &[u8], from: Place, lead: usize, width: usize, rest: usize) -> Reading<Range>
+    ensures { ReadsAs (text_in s.now) (format.diagram lead width rest) s.now from result }
 {
-    let name = bin::string::fixed_string(s, bin::skip_at(s, from, lead), width);
-    let at = name.next;
-    let range = name.range;
-    StringRead {
-        range,
-        next: bin::skip_at(s, at, rest),
-    }
+    let (name, at) = bin::string::fixed_string(s, bin::skip_at(s, from, lead), width)?;
+    let at = bin::skip_at(s, Ok(at), rest)?;
+    Ok((name, at))
 }
 
-fn old_frets_past(s: &[u8], from: Place, v: u32, first: u32) -> Place
-    ensures { Reaches (format.old_frets v first) s.now from tt result }
+fn old_frets_past(s: &[u8], at: usize, v: u32, first: u32) -> Place
+    ensures { Reaches (format.old_frets v first) s.now (Ok at) tt result }
 {
     if bin::NEGATIVE <= first {
-        return from;
+        return Ok(at);
     }
     if first == 0 {
-        return from;
+        return Ok(at);
     }
     if 406 <= v {
-        return bin::skip_at(s, from, 28);
+        return bin::skip_at(s, Ok(at), 28);
     }
-    bin::skip_at(s, from, 24)
+    bin::skip_at(s, Ok(at), 24)
 }
 
-fn old_chord_name(s: &[u8], from: Place, v: u32) -> StringRead
-    ensures { Reaches (format.old_chord v) s.now from (text_in s.now result.range) result.next }
+fn old_chord_name(s: &[u8], at: usize, v: u32) -> Reading<Range>
+    ensures { ReadsAs (text_in s.now) (format.old_chord v) s.now (Ok at) result }
 {
-    let name = bin::string::int_byte_string(s, from);
-    let at = name.next;
-    let first = bin::u32_at(s, at);
-    let at = first.next;
-    let range = name.range;
-    StringRead {
-        range,
-        next: old_frets_past(s, at, v, first.value),
-    }
+    let (name, at) = bin::string::int_byte_string(s, Ok(at))?;
+    let (first, at) = bin::u32_at(s, Ok(at))?;
+    let at = old_frets_past(s, at, v, first)?;
+    Ok((name, at))
 }
 
-fn early_chord_name(s: &[u8], from: Place, v: u32) -> StringRead
-    ensures { Reaches (format.early_chord v) s.now from (text_in s.now result.range) result.next }
+fn early_chord_name(s: &[u8], from: Place, v: u32) -> Reading<Range>
+    ensures { ReadsAs (text_in s.now) (format.early_chord v) s.now from result }
 {
-    let form = bin::u8_at(s, from);
-    let at = form.next;
-    if form.value == 0 {
+    let (form, at) = bin::u8_at(s, from)?;
+    if form == 0 {
         return old_chord_name(s, at, v);
     }
     if 400 <= v {
-        return diagram_name(s, at, 16, 21, 68);
+        return diagram_name(s, Ok(at), 16, 21, 68);
     }
-    diagram_name(s, at, 25, 34, 64)
+    diagram_name(s, Ok(at), 25, 34, 64)
 }
 
-fn any_chord_name(s: &[u8], from: Place, v: u32) -> StringRead
-    ensures { Reaches (format.chord v) s.now from (text_in s.now result.range) result.next }
+fn any_chord_name(s: &[u8], from: Place, v: u32) -> Reading<Range>
+    ensures { ReadsAs (text_in s.now) (format.chord v) s.now from result }
 {
     if 500 <= v {
         return diagram_name(s, from, 17, 21, 68);
@@ -82,10 +72,9 @@ pub(crate) fn chord_at(s: &[u8], from: Place, v: u32, flags: u8, b: &mut Beat) -
     if flags & 0x02 == 0 {
         return from;
     }
-    let name = any_chord_name(s, from, v);
-    let range = name.range;
+    let (range, next) = any_chord_name(s, from, v)?;
     put_range(b, places::CHORD_START, range);
-    name.next
+    Ok(next)
 }
 
 // The beat's text, where its flags say that it has one.
@@ -96,8 +85,7 @@ pub(crate) fn text_at(s: &[u8], from: Place, flags: u8, b: &mut Beat) -> Place
     if flags & 0x04 == 0 {
         return from;
     }
-    let text = bin::string::int_byte_string_unused(s, from);
-    let range = text.range;
+    let (range, next) = bin::string::int_byte_string_unused(s, from)?;
     put_range(b, places::TEXT_START, range);
-    text.next
+    Ok(next)
 }

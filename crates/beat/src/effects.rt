@@ -7,10 +7,13 @@ ghost use Rattle.beat.specs.Effects as format;
 ghost use Rattle.beat.specs.Words as meaning;
 
 use crate::places;
-use crate::places::{Beat, pass_if, put, put_if};
+use crate::places::Beat;
 use format::Place;
 use model::Arpeggio;
+use note::optional::pass_if;
+use note::places::{byte_of, put, put_if};
 
+// None is one of its cases, as in the kinds of `model`.
 #[derive(Clone, Copy)]
 pub enum PickStroke {
     NoStroke,
@@ -93,10 +96,10 @@ fn effects_end(s: &[u8], at: usize, v: u32, flags: u8, b: &mut Beat) -> Place
         (meaning.effects_with v flags (byte_in b.new meaning.MORE_EFFECTS) b.new) result }
 {
     let at = put_if(s, at, 400 <= v, b, places::MORE_EFFECTS);
-    let more = places::byte_of(b, places::MORE_EFFECTS);
+    let more = byte_of(b, places::MORE_EFFECTS);
     let tapped = tapping_at(s, at, v, flags, b);
     let next = tremolo_bar(s, bin::ahead::reached(s, tapped), more);
-    let Place::At(past) = next else {
+    let Ok(past) = next else {
         return next;
     };
     strokes_at(s, past, flags, more, b)
@@ -112,11 +115,7 @@ pub(crate) fn effects_at(s: &[u8], from: Place, v: u32, flags: u8, b: &mut Beat)
         put(b, places::MORE_EFFECTS, 0);
         return from;
     }
-    let first = bin::u8_at(s, from);
-    let next = first.next;
-    let Place::At(at) = next else {
-        return next;
-    };
-    put(b, places::EFFECTS, first.value);
-    effects_end(s, at, v, first.value, b)
+    let (first, at) = bin::u8_at(s, from)?;
+    put(b, places::EFFECTS, first);
+    effects_end(s, at, v, first, b)
 }

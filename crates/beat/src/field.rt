@@ -1,4 +1,4 @@
-// What the words of a beat say: a function for each field.
+// What the words of a beat say: a function for each field, since no number of a word stands outside.
 ghost use Rattle.std.specs.Prelude.{◌≡◌, true, ℕ};
 ghost use Rattle.note.specs.Words.{byte_in};
 ghost use Rattle.beat.specs.Effects as effects;
@@ -8,9 +8,10 @@ ghost use Rattle.beat.specs.Words as meaning;
 
 use crate::effects::PickStroke;
 use crate::places;
-use crate::places::{Beat, byte_of, number_of};
+use crate::places::{Beat, number_of};
 use format::{NO_RANGE, Range};
-use model::{Arpeggio, Duration, Ottava, Tempo, Tuplet};
+use model::{Arpeggio, Duration, Ottava, Tuplet};
+use note::places::byte_of;
 
 pub fn flags(b: &Beat) -> u8
     ensures { result ≡ (meaning.head_in b.now).flags }
@@ -30,18 +31,27 @@ pub fn duration(b: &Beat) -> Duration
     Duration::from_code(byte_of(b, places::DURATION))
 }
 
-fn tuplet_of(actual: u32) -> Tuplet
+fn tuplet_of(actual: u32) -> Option<Tuplet>
     ensures { result ≡ format.tuplet_of actual }
 {
     match actual {
-        3 => Tuplet::Ratio(3, 2),
-        5..=7 => Tuplet::Ratio(actual as u8, 4),
-        9..=13 => Tuplet::Ratio(actual as u8, 8),
-        _ => Tuplet::NoTuplet,
+        3 => Some(Tuplet {
+            actual: 3,
+            normal: 2,
+        }),
+        5..=7 => Some(Tuplet {
+            actual: actual as u8,
+            normal: 4,
+        }),
+        9..=13 => Some(Tuplet {
+            actual: actual as u8,
+            normal: 8,
+        }),
+        _ => None,
     }
 }
 
-pub fn tuplet(b: &Beat) -> Tuplet
+pub fn tuplet(b: &Beat) -> Option<Tuplet>
     ensures { result ≡ (meaning.head_in b.now).tuplet }
 {
     tuplet_of(number_of(b, places::TUPLET))
@@ -118,10 +128,7 @@ pub fn rasgueado_lost(b: &Beat) -> bool
 pub fn tap(b: &Beat) -> bool
     ensures { (v : ℕ) → result ≡ (meaning.effects_in v b.now).tap }
 {
-    if byte_of(b, places::EFFECTS) & 0x20 == 0 {
-        return false;
-    }
-    byte_of(b, places::TAPPING) == 1
+    byte_of(b, places::EFFECTS) & 0x20 != 0 && byte_of(b, places::TAPPING) == 1
 }
 
 pub fn tapping_lost(b: &Beat) -> bool
@@ -178,13 +185,11 @@ pub fn brush(b: &Beat, v: u32) -> Arpeggio
 fn stroke_of(b: u8) -> PickStroke
     ensures { result ≡ effects.stroke_of b }
 {
-    if b == 1 {
-        return PickStroke::Up;
+    match b {
+        1 => PickStroke::Up,
+        2 => PickStroke::Down,
+        _ => PickStroke::NoStroke,
     }
-    if b == 2 {
-        return PickStroke::Down;
-    }
-    PickStroke::NoStroke
 }
 
 pub fn pick(b: &Beat) -> PickStroke
@@ -196,11 +201,11 @@ pub fn pick(b: &Beat) -> PickStroke
     stroke_of(byte_of(b, places::PICK))
 }
 
-pub fn tempo(b: &Beat) -> Tempo
+pub fn tempo(b: &Beat) -> Option<u16>
     ensures { result ≡ (meaning.mix_in (byte_in b.now meaning.FLAGS) b.now).tempo }
 {
     if byte_of(b, places::FLAGS) & 0x10 == 0 {
-        return Tempo::NoTempo;
+        return None;
     }
     model::kinds::tempo_from(number_of(b, places::TEMPO))
 }
@@ -208,19 +213,13 @@ pub fn tempo(b: &Beat) -> Tempo
 pub fn wah_lost(b: &Beat) -> bool
     ensures { result ≡ (meaning.mix_in (byte_in b.now meaning.FLAGS) b.now).wah_lost }
 {
-    if byte_of(b, places::FLAGS) & 0x10 == 0 {
-        return false;
-    }
-    byte_of(b, places::WAH) != 0
+    byte_of(b, places::FLAGS) & 0x10 != 0 && byte_of(b, places::WAH) != 0
 }
 
 pub fn change_lost(b: &Beat) -> bool
     ensures { result ≡ (meaning.mix_in (byte_in b.now meaning.FLAGS) b.now).change_lost }
 {
-    if byte_of(b, places::FLAGS) & 0x10 == 0 {
-        return false;
-    }
-    byte_of(b, places::CHANGE) != 0
+    byte_of(b, places::FLAGS) & 0x10 != 0 && byte_of(b, places::CHANGE) != 0
 }
 
 // The string bits: which of the notes are there.

@@ -6,9 +6,10 @@ ghost use Rattle.beat.specs.Head as format;
 ghost use Rattle.beat.specs.Words as meaning;
 
 use crate::places;
-use crate::places::{Beat, put, store};
+use crate::places::Beat;
 use format::Place;
 use model::{Duration, Tuplet};
+use note::places::{put, store};
 
 // A head, as the format's definitions have it.
 #[derive(Clone, Copy)]
@@ -16,7 +17,7 @@ pub struct Head {
     pub flags: u8,
     pub kept: bool,
     pub duration: Duration,
-    pub tuplet: Tuplet,
+    pub tuplet: Option<Tuplet>,
 }
 
 fn status_at(s: &[u8], at: usize, flags: u8, b: &mut Beat) -> usize
@@ -62,12 +63,7 @@ pub(crate) fn head_at(s: &[u8], from: Place, b: &mut Beat) -> Place
     ensures { meaning.Stores format.head s.now from meaning.FLAGS b.old b.new
         (meaning.head_in b.new) result }
 {
-    let first = bin::u8_at(s, from);
-    let next = first.next;
-    let Place::At(at) = next else {
-        return next;
-    };
-    let flags = first.value;
+    let (flags, at) = bin::u8_at(s, from)?;
     put(b, places::FLAGS, flags);
     bin::ahead::reached(s, head_end(s, at, flags, b))
 }

@@ -1,4 +1,5 @@
 // One beat: its head, chord, text, effects, mix table, notes and tail, read into words that are lent.
+// Tests are joined by `&` and `|` where both cost nothing, and a position is a bare `usize`, as in the crate note.
 #![tactic(auto)]
 
 ghost use Rattle.format.specs.Place.{Reaches};
@@ -15,22 +16,17 @@ pub mod field; // what the words of a beat say
 pub mod places; // the words of a beat
 
 use format::{Place, Range};
-use note::places::Notes;
-use places::{Beat, put, put_range};
+use note::places::{Notes, byte_of, put};
+use places::{Beat, put_range};
 
 // Strings, notes and tail, of a beat that starts at a position. The string bits say which notes are there, note i for bit 6 - i.
 fn beat_notes(s: &[u8], from: Place, v: u32, start: usize, b: &mut Beat, notes: &mut Notes) -> Place
     ensures { meaning.NotesTo v start s.now from b.old b.new notes.new result }
 {
-    let strings = bin::u8_at(s, from);
-    let next = strings.next;
-    let Place::At(at) = next else {
-        return next;
-    };
-    let mask = strings.value;
+    let (mask, at) = bin::u8_at(s, from)?;
     put(b, places::STRINGS, mask);
     let next = note::notes::read_notes(s, at, v, mask, notes);
-    let Place::At(past) = next else {
+    let Ok(past) = next else {
         return next;
     };
     let end = tail::tail_at(s, past, v, b);
@@ -49,7 +45,7 @@ fn behind_head(
 ) -> Place
     ensures { meaning.BehindHead v start s.now from b.old b.new notes.new result }
 {
-    let flags = places::byte_of(b, places::FLAGS);
+    let flags = byte_of(b, places::FLAGS);
     let at = chord::chord_at(s, from, v, flags, b);
     let at = chord::text_at(s, at, flags, b);
     let at = effects::effects_at(s, at, v, flags, b);
@@ -62,7 +58,7 @@ pub fn read_beat(s: &[u8], from: Place, v: u32, b: &mut Beat, notes: &mut Notes)
     ensures { Reaches (format.beat v) s.now from
         (meaning.beat_in s.now v b.new notes.new) result }
 {
-    let Place::At(start) = from else {
+    let Ok(start) = from else {
         return from;
     };
     let at = head::head_at(s, from, b);

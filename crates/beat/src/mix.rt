@@ -1,16 +1,16 @@
 // The mix table of a beat: of its values only whether one is given goes on, and the tempo.
 ghost use Rattle.std.specs.Prelude.{◌≡◌, true};
-ghost use Rattle.format.specs.Place.{Reaches};
+ghost use Rattle.format.specs.Place.{Reaches, Reads, ReadsAs};
 ghost use Rattle.format.specs.Fields.{sign_byte};
 ghost use Rattle.beat.specs.Mix as format;
 ghost use Rattle.beat.specs.Words as meaning;
 
 use crate::places;
-use crate::places::{Beat, store};
-use format::Place;
-use model::Tempo;
+use crate::places::Beat;
+use format::{Place, Reading};
 use model::kinds::flag_word;
 use note::optional::skip_if;
+use note::places::store;
 
 // Whether each of three values of the mix table is 0 or more.
 #[derive(Clone, Copy)]
@@ -23,52 +23,26 @@ struct Signs {
 // What goes on of a mix table, as the format's definitions have it.
 #[derive(Clone, Copy)]
 pub struct Mix {
-    pub tempo: Tempo,
+    pub tempo: Option<u16>,
     pub wah_lost: bool,
     pub change_lost: bool,
 }
 
-#[derive(Clone, Copy)]
-struct SignRead {
-    given: bool,
-    next: Place,
-}
-
-#[derive(Clone, Copy)]
-struct SignsRead {
-    signs: Signs,
-    next: Place,
-}
-
 // Whether a value of the mix table is 0 or more; nothing else of it goes on.
-fn sign_at(s: &[u8], from: Place) -> SignRead
-    ensures { Reaches sign_byte s.now from result.given result.next }
+fn sign_at(s: &[u8], from: Place) -> Reading<bool>
+    ensures { Reads sign_byte s.now from result }
 {
-    let b = bin::u8_at(s, from);
-    let next = b.next;
-    SignRead {
-        given: b.value < note::NEGATIVE_BYTE,
-        next,
-    }
+    let (b, at) = bin::u8_at(s, from)?;
+    Ok((b < note::NEGATIVE_BYTE, at))
 }
 
-fn three_signs(s: &[u8], from: Place) -> SignsRead
-    ensures { Reaches format.three_signs s.now from result.signs result.next }
+fn three_signs(s: &[u8], from: Place) -> Reading<Signs>
+    ensures { Reads format.three_signs s.now from result }
 {
-    let a = sign_at(s, from);
-    let at = a.next;
-    let b = sign_at(s, at);
-    let at = b.next;
-    let c = sign_at(s, at);
-    let next = c.next;
-    SignsRead {
-        signs: Signs {
-            a: a.given,
-            b: b.given,
-            c: c.given,
-        },
-        next,
-    }
+    let (a, at) = sign_at(s, from)?;
+    let (b, at) = sign_at(s, Ok(at))?;
+    let (c, at) = sign_at(s, Ok(at))?;
+    Ok((Signs { a, b, c }, at))
 }
 
 fn three_durations(s: &[u8], from: Place, x: Signs) -> Place
@@ -94,21 +68,15 @@ fn tempo_end(s: &[u8], from: Place, v: u32, tempo: u32) -> Place
 }
 
 // Whether there is a wah byte of 0 or more.
-fn wah_at(s: &[u8], from: Place, v: u32) -> SignRead
-    ensures { Reaches (format.wah v) s.now from result.given result.next }
+fn wah_at(s: &[u8], from: Place, v: u32) -> Reading<bool>
+    ensures { Reads (format.wah v) s.now from result }
 {
+    let at = from?;
     if v < 500 {
-        return SignRead {
-            given: false,
-            next: from,
-        };
+        return Ok((false, at));
     }
-    let b = bin::u8_at(s, from);
-    let next = b.next;
-    SignRead {
-        given: b.value < note::NEGATIVE_BYTE,
-        next,
-    }
+    let (b, at) = bin::u8_at(s, Ok(at))?;
+    Ok((b < note::NEGATIVE_BYTE, at))
 }
 
 fn mix_strings_past(s: &[u8], from: Place, v: u32) -> Place
@@ -127,12 +95,11 @@ fn mix_end(s: &[u8], from: Place, v: u32, changed: bool, tempo: u32, b: &mut Bea
         b.new (meaning.mix_by true b.new) result }
 {
     let at = tempo_end(s, from, v, tempo);
-    let wah = wah_at(s, skip_if(s, at, 400 <= v, 1), v);
+    let (wah, at) = wah_at(s, skip_if(s, at, 400 <= v, 1), v)?;
     store(b, places::TEMPO, tempo as usize);
-    store(b, places::WAH, flag_word(wah.given) as usize);
+    store(b, places::WAH, flag_word(wah) as usize);
     store(b, places::CHANGE, flag_word(changed) as usize);
-    let at = wah.next;
-    mix_strings_past(s, at, v)
+    mix_strings_past(s, Ok(at), v)
 }
 
 fn any_given(instrument: bool, x: Signs, y: Signs) -> bool
@@ -153,25 +120,19 @@ fn mix_tempo(
     ensures { meaning.Stores (format.mix_tempo v instrument x y) s.now from meaning.TEMPO b.old
         b.new (meaning.mix_by true b.new) result }
 {
-    let tempo = bin::u32_at(s, tempo_name_past(s, from, v));
-    let at = tempo.next;
-    let at = three_durations(s, three_durations(s, at, x), y);
-    mix_end(s, at, v, any_given(instrument, x, y), tempo.value, b)
+    let (tempo, at) = bin::u32_at(s, tempo_name_past(s, from, v))?;
+    let at = three_durations(s, three_durations(s, Ok(at), x), y);
+    mix_end(s, at, v, any_given(instrument, x, y), tempo, b)
 }
 
 fn mix_table(s: &[u8], from: Place, v: u32, b: &mut Beat) -> Place
     ensures { meaning.Stores (format.mix_table v) s.now from meaning.TEMPO b.old b.new
         (meaning.mix_by true b.new) result }
 {
-    let instrument = sign_at(s, from);
-    let at = instrument.next;
-    let first = three_signs(s, skip_if(s, at, 500 <= v, 16));
-    let at = first.next;
-    let second = three_signs(s, at);
-    let at = second.next;
-    let x = first.signs;
-    let y = second.signs;
-    mix_tempo(s, at, v, instrument.given, x, y, b)
+    let (instrument, at) = sign_at(s, from)?;
+    let (x, at) = three_signs(s, skip_if(s, Ok(at), 500 <= v, 16))?;
+    let (y, at) = three_signs(s, Ok(at))?;
+    mix_tempo(s, Ok(at), v, instrument, x, y, b)
 }
 
 // The mix table, where the beat's flags say that it has one.

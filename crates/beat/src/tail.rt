@@ -6,7 +6,9 @@ ghost use Rattle.beat.specs.Tail as format;
 ghost use Rattle.beat.specs.Words as meaning;
 
 use crate::places;
-use crate::places::{Beat, pass_if, store};
+use crate::places::Beat;
+use note::optional::pass_if;
+use note::places::store;
 
 // Its flags, and where the beat ends.
 #[derive(Clone, Copy)]

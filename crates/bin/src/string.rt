@@ -1,41 +1,22 @@
-// Texts: cut at the first zero byte and trimmed, kept as a range of the input; and the four kinds of string, kept or passed over.
+// Texts: cut at the first zero byte and trimmed, kept as a range of the input; and the four kinds of string, kept or passed over:
+// two functions each, as they are two programs of the format, so that nothing of what is passed over reaches an answer (docs/DECISIONS.md).
 ghost use Rattle.std.specs.Prelude.{◌≡◌, ◌+◌, ◌-◌, ◌≤◌, length};
 ghost use Rattle.std.proofs.Math.Seq.{slice};
-ghost use Rattle.format.specs.Text.{blank, cut_len, lead_len, keep_len, range_of, no_text, text_in};
-ghost use Rattle.format.specs.Place.{Gives};
+ghost use Rattle.format.specs.Text.{blank, cut_len, lead_len, keep_len, range_of, text_in};
+ghost use Rattle.format.specs.Place.{Reaches, Reads, ReadsAs};
 ghost use Rattle.format.specs.Fields as field;
 
 use crate::signed::less_one;
-use format::{NO_RANGE, Place, Range, Stop};
-
-// A text's range, and where reading goes on.
-#[derive(Clone, Copy)]
-pub struct StringRead {
-    pub range: Range,
-    pub next: Place,
-}
-
-const ENDED: StringRead = StringRead {
-    range: NO_RANGE,
-    next: Place::Stopped(Stop::Ends),
-};
+use format::{NO_RANGE, Place, Range, Reading, Stop};
 
 // no text is longer
 const MAX_STRING: u32 = 1048576;
 
+#[tactic(auto, unfolding(format::specs::Text::blank))]
 fn is_blank(b: u8) -> bool
     ensures { result ≡ blank b }
 {
-    if b < 9 {
-        return false;
-    }
-    if b <= 13 {
-        return true;
-    }
-    if b == 32 {
-        return true;
-    }
-    b == 160
+    matches!(b, 9..=13 | 32 | 160)
 }
 
 // where the first zero stands, or the end
@@ -43,14 +24,12 @@ fn cut_end(s: &[u8], from: usize, end: usize) -> usize
     requires { (from ≤ end) × (end ≤ length s.now) }
     ensures { (from ≤ result) × (result ≤ end) × (result ≡ from + cut_len (slice from end s.now)) }
 {
-    let mut i = from;
-    while i < end {
+    for i in from..end {
         if s[i] == 0 {
             return i;
         }
-        i += 1;
     }
-    i
+    end
 }
 
 // past the blanks at the start
@@ -58,14 +37,12 @@ fn lead_end(s: &[u8], from: usize, end: usize) -> usize
     requires { (from ≤ end) × (end ≤ length s.now) }
     ensures { (from ≤ result) × (result ≤ end) × (result ≡ from + lead_len (slice from end s.now)) }
 {
-    let mut i = from;
-    while i < end {
+    for i in from..end {
         if !is_blank(s[i]) {
             return i;
         }
-        i += 1;
     }
-    i
+    end
 }
 
 // before the blanks at the end
@@ -73,15 +50,12 @@ fn keep_end(s: &[u8], from: usize, end: usize) -> usize
     requires { (from ≤ end) × (end ≤ length s.now) }
     ensures { (from ≤ result) × (result ≤ end) × (result ≡ from + keep_len (slice from end s.now)) }
 {
-    let mut e = end;
-    while from < e {
-        let last = e - 1;
+    for last in (from..end).rev() {
         if !is_blank(s[last]) {
-            return e;
+            return last + 1;
         }
-        e = last;
     }
-    e
+    from
 }
 
 // an empty text is 0 and 0
@@ -96,124 +70,92 @@ fn range_of(start: usize, stop: usize) -> Range
 }
 
 // The text of n bytes.
-pub fn words_at(s: &[u8], from: Place, n: usize) -> StringRead
-    ensures { Gives (field.text_bytes n) no_text s.now from (text_in s.now result.range) result.next }
+pub fn words_at(s: &[u8], from: Place, n: usize) -> Reading<Range>
+    ensures { ReadsAs (text_in s.now) (field.text_bytes n) s.now from result }
 {
-    let Place::At(at) = from else {
-        return StringRead {
-            range: NO_RANGE,
-            next: from,
-        };
-    };
+    let at = from?;
     if s.len() < at {
-        return ENDED;
+        return Err(Stop::Ends);
     }
     if s.len() - at < n {
-        return ENDED;
+        return Err(Stop::Ends);
     }
     let end = at + n;
     let cut = cut_end(s, at, end);
     let start = lead_end(s, at, cut);
     let stop = keep_end(s, start, cut);
-    StringRead {
-        range: range_of(start, stop),
-        next: Place::At(end),
-    }
+    Ok((range_of(start, stop), end))
 }
 
 // A text's length is tested before its bytes are sought.
-fn string_at(s: &[u8], from: Place, n: u32) -> StringRead
-    ensures { Gives (field.string_of n) no_text s.now from (text_in s.now result.range) result.next }
+fn string_at(s: &[u8], from: Place, n: u32) -> Reading<Range>
+    ensures { ReadsAs (text_in s.now) (field.string_of n) s.now from result }
 {
-    let Place::At(_) = from else {
-        return StringRead {
-            range: NO_RANGE,
-            next: from,
-        };
-    };
+    let at = from?;
     if n <= MAX_STRING {
-        return words_at(s, from, n as usize);
+        return words_at(s, Ok(at), n as usize);
     }
-    StringRead {
-        range: NO_RANGE,
-        next: Place::Stopped(Stop::Text),
-    }
+    Err(Stop::Text)
 }
 
 fn string_past(s: &[u8], from: Place, n: u32) -> Place
-    ensures { Gives (field.string_past n) tt s.now from tt result }
+    ensures { Reaches (field.string_past n) s.now from tt result }
 {
-    let Place::At(_) = from else {
-        return from;
-    };
+    let at = from?;
     if n <= MAX_STRING {
-        return crate::skip_at(s, from, n as usize);
+        return crate::skip_at(s, Ok(at), n as usize);
     }
-    Place::Stopped(Stop::Text)
+    Err(Stop::Text)
 }
 
 // A length byte, then a field of fixed width.
-pub fn fixed_string(s: &[u8], from: Place, width: usize) -> StringRead
-    ensures { Gives (field.fixed_string width) no_text s.now from (text_in s.now result.range) result.next }
+pub fn fixed_string(s: &[u8], from: Place, width: usize) -> Reading<Range>
+    ensures { ReadsAs (text_in s.now) (field.fixed_string width) s.now from result }
 {
-    let stated = crate::u8_at(s, from);
-    let at = stated.next;
-    let n = stated.value as usize;
+    let (stated, at) = crate::u8_at(s, from)?;
+    let n = stated as usize;
     if width < n {
-        return words_at(s, at, width);
+        return words_at(s, Ok(at), width);
     }
-    let words = words_at(s, at, n);
-    let at = words.next;
-    let next = crate::skip_at(s, at, width - n);
-    let Place::At(_) = next else {
-        return StringRead {
-            range: NO_RANGE,
-            next,
-        };
-    };
-    let range = words.range;
-    StringRead { range, next }
+    let (range, at) = words_at(s, Ok(at), n)?;
+    let at = crate::skip_at(s, Ok(at), width - n)?;
+    Ok((range, at))
 }
 
 // A four-byte field size that is not used, then a length byte and the text.
-pub fn int_byte_string_unused(s: &[u8], from: Place) -> StringRead
-    ensures { Gives field.int_byte_string_unused no_text s.now from (text_in s.now result.range) result.next }
+pub fn int_byte_string_unused(s: &[u8], from: Place) -> Reading<Range>
+    ensures { ReadsAs (text_in s.now) field.int_byte_string_unused s.now from result }
 {
-    let n = crate::u8_at(s, crate::skip_at(s, from, 4));
-    let at = n.next;
-    words_at(s, at, n.value as usize)
+    let (n, at) = crate::u8_at(s, crate::skip_at(s, from, 4))?;
+    words_at(s, Ok(at), n as usize)
 }
 
 pub fn int_byte_string_unused_past(s: &[u8], from: Place) -> Place
-    ensures { Gives field.int_byte_string_unused_past tt s.now from tt result }
+    ensures { Reaches field.int_byte_string_unused_past s.now from tt result }
 {
-    let n = crate::u8_at(s, crate::skip_at(s, from, 4));
-    let at = n.next;
-    crate::skip_at(s, at, n.value as usize)
+    let (n, at) = crate::u8_at(s, crate::skip_at(s, from, 4))?;
+    crate::skip_at(s, Ok(at), n as usize)
 }
 
 // A four-byte length, then the text.
-pub fn int_string(s: &[u8], from: Place) -> StringRead
-    ensures { Gives field.int_string no_text s.now from (text_in s.now result.range) result.next }
+pub fn int_string(s: &[u8], from: Place) -> Reading<Range>
+    ensures { ReadsAs (text_in s.now) field.int_string s.now from result }
 {
-    let n = crate::u32_at(s, from);
-    let at = n.next;
-    string_at(s, at, n.value)
+    let (n, at) = crate::u32_at(s, from)?;
+    string_at(s, Ok(at), n)
 }
 
 // A four-byte size, a length byte that is passed over, then the text.
-pub fn int_byte_string(s: &[u8], from: Place) -> StringRead
-    ensures { Gives field.int_byte_string no_text s.now from (text_in s.now result.range) result.next }
+pub fn int_byte_string(s: &[u8], from: Place) -> Reading<Range>
+    ensures { ReadsAs (text_in s.now) field.int_byte_string s.now from result }
 {
-    let size = crate::u32_at(s, from);
-    let at = size.next;
-    string_at(s, crate::skip_at(s, at, 1), less_one(size.value))
+    let (size, at) = crate::u32_at(s, from)?;
+    string_at(s, crate::skip_at(s, Ok(at), 1), less_one(size))
 }
 
 pub fn int_byte_string_past(s: &[u8], from: Place) -> Place
-    ensures { Gives field.int_byte_string_past tt s.now from tt result }
+    ensures { Reaches field.int_byte_string_past s.now from tt result }
 {
-    let size = crate::u32_at(s, from);
-    let at = size.next;
-    string_past(s, crate::skip_at(s, at, 1), less_one(size.value))
+    let (size, at) = crate::u32_at(s, from)?;
+    string_past(s, crate::skip_at(s, Ok(at), 1), less_one(size))
 }

@@ -1,9 +1,7 @@
 -- The running dynamic.
-use Rattle.std.specs.Prelude.{ℕ, Bool, true, ◌&&◌, ◌||◌, List, [], ◌∷◌, eqb}
+use Rattle.std.specs.Prelude.{ℕ, Bool, true, ◌&&◌, ◌||◌, List, [], ◌∷◌, eqb, None, Option, Some}
 use Rattle.format.specs.Text.{pick}
 use Rattle.curve.specs.Held.{held, byte_half}
-use Rattle.curve.specs.declared.level.Level.{Level}
-use Rattle.curve.specs.declared.level.Level.TheVariants.{Absent, Given}
 use Rattle.curve.specs.declared.level.NoteLevel.{NoteLevel}
 use Rattle.curve.specs.declared.level.ChordLevel.{ChordLevel}
 use Rattle.curve.specs.declared.level.LevelAfter.{LevelAfter}
@@ -13,25 +11,25 @@ abbrev pub forte : ℕ
 forte = 6
 
 -- docs/RULES.md 14: the dynamic byte is held to 1..8
-abbrev pub held_level : Level → Level
-held_level Absent = Absent
-held_level (Given byte) = Given (held byte_half 1 8 byte)
+abbrev pub held_level : Option ℕ → Option ℕ
+held_level None = None
+held_level (Some byte) = Some (held byte_half 1 8 byte)
 
 -- "A ghost, accented or heavily accented note is emphasised and gives no dynamic."
-unfoldable pub note_level : (ghost accent heavy : Bool) (stored : Level) → NoteLevel
+unfoldable pub note_level : (ghost accent heavy : Bool) (stored : Option ℕ) → NoteLevel
 note_level ghost accent heavy stored = record {
   emphasised = ghost || accent || heavy;
-  given = pick (ghost || accent || heavy) Absent (held_level stored);
+  given = pick (ghost || accent || heavy) None (held_level stored);
 }
 
 -- the later of two, where it is given
-abbrev pub later : Level → Level → Level
-later l Absent = l
-later l (Given n) = Given n
+abbrev pub later : Option ℕ → Option ℕ → Option ℕ
+later l None = l
+later l (Some n) = Some n
 
 -- "The last member in order that gives one counts"
-abbrev pub last_given : List NoteLevel → Level
-last_given [] = Absent
+abbrev pub last_given : List NoteLevel → Option ℕ
+last_given [] = None
 last_given (m ∷ ms) = later m.given (last_given ms)
 
 abbrev pub all_emphasised : List NoteLevel → Bool
@@ -42,9 +40,9 @@ all_emphasised (m ∷ ms) = m.emphasised && all_emphasised ms
 unfoldable pub chord_of : List NoteLevel → ChordLevel
 chord_of ms = record { emphasised = all_emphasised ms; given = last_given ms }
 
-abbrev pub level_or : Level → ℕ → ℕ
-level_or Absent n = n
-level_or (Given level) n = level
+abbrev pub level_or : Option ℕ → ℕ → ℕ
+level_or None n = n
+level_or (Some level) n = level
 
 -- "with none, 6, or the running value if all members are emphasised." A rest has no members, so it keeps the running value.
 unfoldable pub chord_level : (running : ℕ) → ChordLevel → ℕ
@@ -54,5 +52,5 @@ chord_level running chord = level_or chord.given (pick chord.emphasised running 
 unfoldable pub level_after : (running : ℕ) → ChordLevel → LevelAfter
 level_after running chord = record {
   running = chord_level running chord;
-  mark = pick (eqb (chord_level running chord) running) Absent (Given (chord_level running chord));
+  mark = pick (eqb (chord_level running chord) running) None (Some (chord_level running chord));
 }

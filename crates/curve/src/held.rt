@@ -1,4 +1,5 @@
-// Numbers of the file held to their ranges. A byte or a word is the file's own: in two's complement, where it is signed.
+// Numbers of the file held to their ranges, each range by its name over one `held_to`. A byte or a word is the file's own: in two's
+// complement, where it is signed.
 ghost use Rattle.std.specs.Prelude.{◌≡◌, ◌≤◌};
 ghost use Rattle.curve.specs.Held.{held, HeldTo, byte_half, byte_end, word_half};
 
@@ -12,20 +13,12 @@ const BYTE_HALF: u32 = 0x80;
 const BYTE_END: u32 = 0x100;
 
 // `x` held to lo..hi; from `half` on, `x` stands for a number below zero.
+#[tactic(auto, unfolding(crate::specs::Held::held))]
 pub(crate) fn held_to(half: u32, lo: u32, hi: u32, x: u32) -> u32
     requires { lo ≤ hi }
     ensures { HeldTo half lo hi x result }
 {
-    if half <= x {
-        return lo;
-    }
-    if x < lo {
-        return lo;
-    }
-    if hi < x {
-        return hi;
-    }
-    x
+    if x < half { x.clamp(lo, hi) } else { lo }
 }
 
 // The fret of a note or of a grace, 0..99.

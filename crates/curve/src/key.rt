@@ -6,6 +6,7 @@ ghost use Rattle.curve.specs.Key.{percussion_key, string_key, note_key, grace_ke
 const LAST: u32 = 127;
 
 // The key of a fret on a percussion track.
+#[tactic(auto, unfolding(crate::specs::Key::percussion_key))]
 pub fn percussion_key(fret: u8) -> u8
     ensures { result ≡ percussion_key fret }
 {
@@ -21,7 +22,7 @@ pub fn percussion_key(fret: u8) -> u8
 fn key_held(key: u32) -> u8
     ensures { result ≡ min key 127 }
 {
-    if key <= LAST { key as u8 } else { LAST as u8 }
+    key.min(LAST) as u8
 }
 
 // The key of a fret on a string.
@@ -46,7 +47,5 @@ pub fn note_key(percussion: bool, fret: u8, tuning: u8, capo: u8) -> u8
 pub fn grace_key(key: u8, fret: u8, grace: u8) -> u8
     ensures { result ≡ grace_key key fret grace }
 {
-    let up = key as u32 + grace as u32;
-    let down = fret as u32;
-    if up < down { 0 } else { key_held(up - down) }
+    key_held((key as u32 + grace as u32).saturating_sub(fret as u32))
 }

@@ -6,4 +6,3 @@ pub mod bend; // the bend curve and its height
 pub mod slide; // slides and slide marks
 pub mod level; // the dynamic of a chord and the running dynamic
 pub mod key; // keys of notes and of graces
-mod truth; // connectives as values

@@ -2,10 +2,8 @@
 ghost use Rattle.std.specs.Prelude.{◌≡◌};
 ghost use Rattle.curve.specs.Slide.{bits_slide, kind_slide, slide_of};
 
-use crate::truth::{both, either};
-
 // What a slide byte says.
-#[derive(Clone, Copy)]
+#[derive(Clone, Copy, PartialEq, Eq)]
 pub struct SlideEffect {
     pub slide: bool, // a shift or legato slide
     pub falloff: bool,
@@ -16,6 +14,7 @@ pub struct SlideEffect {
 }
 
 // From v500 on the byte is a set of bits.
+#[tactic(auto, unfolding(format::specs::Prog::has))]
 fn bits_slide(bits: u8) -> SlideEffect
     ensures { result ≡ bits_slide bits }
 {
@@ -34,16 +33,17 @@ fn kind_slide(kind: u8) -> SlideEffect
     ensures { result ≡ kind_slide kind }
 {
     SlideEffect {
-        slide: either(kind == 1, kind == 2),
+        slide: kind == 1 || kind == 2,
         falloff: kind == 3,
         doit: kind == 4,
         scoop: kind == 0xff,
         plop: kind == 0xfe,
-        lost: both(4 < kind, kind < 0xfe),
+        lost: 4 < kind && kind < 0xfe,
     }
 }
 
 // What the slide byte of a note says in a file of that version.
+#[tactic(auto, unfolding(crate::specs::Slide::slide_of))]
 pub fn slide_of(version: u32, byte: u8) -> SlideEffect
     ensures { result ≡ slide_of version byte }
 {

@@ -1,5 +1,5 @@
 -- What each note of a chord adds to its row.
-use Rattle.std.specs.Prelude.{ℕ, ◌≡◌, List, [], ◌∷◌, Bool, true, false, ◌||◌, eqb}
+use Rattle.std.specs.Prelude.{ℕ, ◌≡◌, List, [], ◌∷◌, Bool, true, false, ◌||◌, eqb, None, Option, Some}
 use Rattle.format.specs.declared.Range.{Range}
 use Rattle.format.specs.Text.{pick}
 use Rattle.model.specs.declared.Articulation.{Articulation}
@@ -10,8 +10,6 @@ use Rattle.model.specs.declared.Technique.TheVariants.{NoTechnique, Hammer, Slid
 use Rattle.model.specs.declared.TechniqueText.TheVariants.{HammerMark}
 use Rattle.model.specs.Marks.{add_mark}
 use Rattle.note.specs.declared.marks.Grace.{Grace}
-use Rattle.note.specs.declared.marks.GraceNote.{GraceNote}
-use Rattle.note.specs.declared.marks.GraceNote.TheVariants.{NoGrace, Before}
 use Rattle.note.specs.declared.marks.NoteEffects.{NoteEffects}
 use Rattle.note.specs.Points.{bend_in}
 use Rattle.note.specs.Note.{NoteIs}
@@ -24,9 +22,7 @@ use Rattle.model.specs.declared.Duration.TheVariants.{ThirtySecond}
 use Rattle.model.specs.declared.Ottava.TheVariants.{NoOttava}
 use Rattle.model.specs.declared.RowPlace.{RowPlace}
 use Rattle.model.specs.declared.RowKind.TheVariants as K
-use Rattle.model.specs.declared.Tuplet.TheVariants.{NoTuplet}
 use Rattle.model.specs.Marks.{packed}
-use Rattle.curve.specs.declared.level.Level.TheVariants.{Absent}
 use Rattle.draft.specs.declared.Draft.{Draft}
 use Rattle.draft.specs.declared.graces.Graces.{Graces}
 
@@ -83,9 +79,9 @@ graced_by g x =
       head = pick g.dead Cross x.head;
     }
 
-abbrev pub graced_if : GraceNote → Graces → Graces
-graced_if NoGrace x = x
-graced_if (Before g) x = graced_by g x
+abbrev pub graced_if : Option Grace → Graces → Graces
+graced_if None x = x
+graced_if (Some g) x = graced_by g x
 
 -- `grace_row` of Rows but for its members
 unfoldable pub grace_draft : RowPlace → Range → Graces → Draft
@@ -94,11 +90,11 @@ grace_draft place beat x =
       place = place;
       kind = K.Grace;
       rest = false;
-      value = record { duration = ThirtySecond; dot = false; tuplet = NoTuplet };
+      value = record { duration = ThirtySecond; dot = false; tuplet = None };
       text = x.text;
       technique = x.technique;
       bend = record { start = 0; count = 0 };
-      dynamic = Absent;
+      dynamic = None;
       articulations = packed [];
       arpeggio = NoArpeggio;
       head = x.head;

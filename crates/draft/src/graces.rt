@@ -9,7 +9,7 @@ use crate::chord;
 use crate::voicing::head_with;
 use model::{NoteHead, Technique, TechniqueText};
 use note::field;
-use note::marks::{Grace, GraceNote};
+use note::marks::Grace;
 use note::places::Notes;
 
 // `any`: whether there are graces.
@@ -32,13 +32,11 @@ const NO_GRACES: Graces = Graces {
 fn grace_technique(transition: u8, before: Technique) -> Technique
     ensures { result ≡ technique_by transition before }
 {
-    if transition == 1 {
-        return Technique::Slide;
+    match transition {
+        1 => Technique::Slide,
+        3 => Technique::Hammer,
+        _ => before,
     }
-    if transition == 3 {
-        return Technique::Hammer;
-    }
-    before
 }
 
 // Any transition 3 leaves the mark.
@@ -46,43 +44,41 @@ fn grace_text(transition: u8, before: TechniqueText) -> TechniqueText
     ensures { result ≡ pick (eqb transition 3) TechniqueText.HammerMark before }
 {
     if transition == 3 {
-        return TechniqueText::HammerMark;
+        TechniqueText::HammerMark
+    } else {
+        before
     }
-    before
 }
 
+#[tactic(auto, unfolding(crate::specs::Steps::graced_by))]
 fn graced_by(grace: Grace, x: Graces) -> Graces
     ensures { result ≡ graced_by grace x }
 {
-    let text = x.text;
-    let technique = x.technique;
-    let head = x.head;
     Graces {
         any: true,
-        text: grace_text(grace.transition, text),
-        technique: grace_technique(grace.transition, technique),
-        head: head_with(grace.dead, head),
+        text: grace_text(grace.transition, x.text),
+        technique: grace_technique(grace.transition, x.technique),
+        head: head_with(grace.dead, x.head),
     }
 }
 
-fn graced_if(grace: GraceNote, x: Graces) -> Graces
+fn graced_if(grace: Option<Grace>, x: Graces) -> Graces
     ensures { result ≡ graced_if grace x }
 {
-    let GraceNote::Before(g) = grace else {
+    let Some(g) = grace else {
         return x;
     };
     graced_by(g, x)
 }
 
+#[tactic(auto, unfolding(crate::specs::Chord::chord_in), using(crate::proofs::Walks::next_graces, crate::proofs::Steps::graces_after_lem))]
 pub fn graces_of(notes: &Notes, chord: &[u32]) -> Graces
     ensures { (s : List ℕ) (v : ℕ) → result ≡ graces_of (graces (chord_in s v notes.now chord.now)) }
 {
     let mut x = NO_GRACES;
-    let mut i: usize = 0;
-    while i < chord.len() {
-        let grace = field::grace(notes, chord::string_of(chord[i]));
+    for struck in chord {
+        let grace = field::grace(notes, chord::string_of(*struck));
         x = graced_if(grace, x);
-        i += 1;
     }
     x
 }

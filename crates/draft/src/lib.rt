@@ -11,7 +11,6 @@ pub mod voicing; // what the notes of a chord give its row
 pub mod graces; // what the graces of a chord give theirs
 pub mod rows; // the rows of a beat
 
-use curve::level::Level;
 use format::Range;
 use model::{
     Arpeggio, Articulations, NoteHead, NoteValue, Ottava, RowKind, RowPlace, Technique,
@@ -29,7 +28,7 @@ pub struct Draft {
     pub text: TechniqueText,
     pub technique: Technique,
     pub bend: Bend,
-    pub dynamic: Level,
+    pub dynamic: Option<u8>,
     pub articulations: Articulations,
     pub arpeggio: Arpeggio,
     pub head: NoteHead,

@@ -11,18 +11,17 @@ use beat::places::Beat;
 use model::Articulation;
 use model::marks::{Marks, added};
 use note::field;
-use note::marks::Tremolo;
 use note::places::Notes;
 
+// By a flag, as the definition `only`: a closure would be called under the same test.
+#[tactic(auto, unfolding(crate::specs::Steps::add_marks))]
 fn added_if(m: Marks, given: bool, a: Articulation) -> Marks
     ensures { added_in result ≡ add_marks (added_in m) (rule.only given a) }
 {
-    if given {
-        return added(m, a);
-    }
-    m
+    if given { added(m, a) } else { m }
 }
 
+#[tactic(auto, unfolding(crate::specs::Steps::add_marks))]
 pub(crate) fn with_accent(m: Marks, notes: &Notes, string: usize) -> Marks
     ensures { (v : ℕ) → added_in result ≡ add_marks (added_in m) (rule.accents (read_in v notes.now string)) }
 {
@@ -35,24 +34,24 @@ pub(crate) fn with_accent(m: Marks, notes: &Notes, string: usize) -> Marks
 fn strokes(n: u8) -> Articulation
     ensures { result ≡ rule.strokes n }
 {
-    if n == 1 {
-        return Articulation::Tremolo1;
+    match n {
+        1 => Articulation::Tremolo1,
+        2 => Articulation::Tremolo2,
+        _ => Articulation::Tremolo3,
     }
-    if n == 2 {
-        return Articulation::Tremolo2;
-    }
-    Articulation::Tremolo3
 }
 
-fn with_tremolo(m: Marks, tremolo: Tremolo) -> Marks
+#[tactic(auto, unfolding(crate::specs::Steps::add_marks))]
+fn with_tremolo(m: Marks, tremolo: Option<u8>) -> Marks
     ensures { added_in result ≡ add_marks (added_in m) (rule.tremolos tremolo) }
 {
-    let Tremolo::Strokes(n) = tremolo else {
+    let Some(n) = tremolo else {
         return m;
     };
     added(m, strokes(n))
 }
 
+#[tactic(auto, using(crate::proofs::Steps::add_both))]
 fn with_slide(m: Marks, notes: &Notes, string: usize, v: u32) -> Marks
     ensures { added_in result ≡ add_marks (added_in m) (rule.slides (read_in v notes.now string).effects.slide) }
 {
@@ -76,20 +75,21 @@ fn harmonic(b: &Beat, notes: &Notes, string: usize, v: u32) -> bool
     field::harmonic(notes, string) | beat_harmonic(b, v)
 }
 
+#[tactic(auto, unfolding(score::specs::Rows::note_marks), using(crate::proofs::Steps::add_both))]
 pub(crate) fn with_note(m: Marks, b: &Beat, notes: &Notes, string: usize, v: u32) -> Marks
     ensures { added_in result
         ≡ add_marks (added_in m) (rule.note_marks (effects_in v b.now) (read_in v notes.now string)) }
 {
-    let tremolo = field::tremolo(notes, string);
     let m = with_accent(m, notes, string);
     let m = added_if(m, field::vibrato(notes, string), Articulation::Vibrato);
     let m = with_slide(m, notes, string, v);
     let m = added_if(m, field::staccato(notes, string), Articulation::Staccato);
     let m = added_if(m, harmonic(b, notes, string, v), Articulation::Harmonic);
     let m = added_if(m, field::trill(notes, string), Articulation::Trill);
-    with_tremolo(m, tremolo)
+    with_tremolo(m, field::tremolo(notes, string))
 }
 
+#[tactic(auto, unfolding(crate::specs::Steps::add_marks))]
 fn with_bow(m: Marks, stroke: PickStroke) -> Marks
     ensures { added_in result ≡ add_marks (added_in m) (rule.bows stroke) }
 {
@@ -100,11 +100,11 @@ fn with_bow(m: Marks, stroke: PickStroke) -> Marks
     }
 }
 
+#[tactic(auto, unfolding(score::specs::Rows::beat_marks), using(crate::proofs::Steps::add_both))]
 pub(crate) fn with_beat(m: Marks, b: &Beat, v: u32) -> Marks
     ensures { added_in result ≡ add_marks (added_in m) (rule.beat_marks (effects_in v b.now)) }
 {
-    let stroke = beat::field::pick(b);
-    let m = with_bow(m, stroke);
+    let m = with_bow(m, beat::field::pick(b));
     let m = added_if(m, beat::field::vibrato(b, v), Articulation::Vibrato);
     added_if(m, beat::field::tap(b), Articulation::Tap)
 }

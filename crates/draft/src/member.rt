@@ -1,4 +1,4 @@
-// The members of a row: of the notes of a chord, and of the graces before them.
+// The members of a row: of the notes of a chord, and of the graces before them. Two functions, since no field but the string is made alike.
 ghost use Rattle.std.specs.Prelude.{◌≡◌, List, ℕ, ◌-◌};
 ghost use Rattle.score.specs.Members.{position_of, turned, finger_of, member_of, grace_member};
 ghost use Rattle.draft.specs.Chord.{keyed_in};
@@ -14,23 +14,23 @@ use score::Fretboard;
 fn string_number(count: u8, string: usize) -> u8
     ensures { result ≡ count - string }
 {
-    let strings = count as usize;
-    if string < strings {
-        return (strings - string) as u8;
-    }
-    0
+    (count as usize).saturating_sub(string) as u8
 }
 
-fn position_of(board: Fretboard, string: usize, fret: u8) -> TabPosition
+fn position_of(board: Fretboard, string: usize, fret: u8) -> Option<TabPosition>
     ensures { result ≡ position_of board string fret }
 {
-    let strings = board.strings;
     if board.tablature {
-        return TabPosition::Fretted(string_number(strings.count, string), fret);
+        Some(TabPosition {
+            string: string_number(board.strings.count, string),
+            fret,
+        })
+    } else {
+        None
     }
-    TabPosition::OffTablature
 }
 
+// The file's numbers, which are not the words of the kind: no `From`.
 fn numbered_finger(n: u8) -> Finger
     ensures { result ≡ finger_of (LeftHand.Finger n) }
 {
@@ -49,8 +49,7 @@ pub fn finger_of(hand: LeftHand) -> Finger
 {
     match hand {
         LeftHand::Finger(n) => numbered_finger(n),
-        LeftHand::NoFinger => Finger::NoFinger,
-        LeftHand::Beyond => Finger::NoFinger,
+        LeftHand::NoFinger | LeftHand::Beyond => Finger::NoFinger,
     }
 }
 
@@ -58,30 +57,29 @@ pub fn finger_of(hand: LeftHand) -> Finger
 fn flat_of(flat: bool, swap: bool) -> bool
     ensures { result ≡ turned flat swap }
 {
-    if swap { !flat } else { flat }
+    flat != swap
 }
 
+#[tactic(auto, unfolding(score::specs::Members::member_of))]
 pub fn member_of(board: Fretboard, flat: bool, notes: &Notes, struck: u32) -> Member
     ensures { (s : List ℕ) (v : ℕ) → result ≡ member_of board flat (keyed_in s v notes.now struck) }
 {
     let string = chord::string_of(struck);
-    let hand = field::left_hand(notes, string);
-    let position = position_of(board, string, chord::fret_of(struck));
-    let finger = finger_of(hand);
     Member {
         key: chord::key_of(struck),
         flat: flat_of(flat, field::swap_accidental(notes, string)),
-        position,
+        position: position_of(board, string, chord::fret_of(struck)),
         ghosted: field::ghosted(notes, string),
         ties: Ties {
             end: field::tied(notes, string),
             start: false,
         },
-        finger,
+        finger: finger_of(field::left_hand(notes, string)),
     }
 }
 
 // A grace's offset is taken from the fret read, not the one remembered.
+#[tactic(auto, unfolding(score::specs::Members::grace_member))]
 pub fn grace_member(
     board: Fretboard,
     flat: bool,
@@ -93,7 +91,6 @@ pub fn grace_member(
         ≡ grace_member board flat (record { grace = grace; note = keyed_in s v notes.now struck }) }
 {
     let string = chord::string_of(struck);
-    let position = position_of(board, string, grace.fret);
     Member {
         key: curve::key::grace_key(
             chord::key_of(struck),
@@ -101,7 +98,7 @@ pub fn grace_member(
             grace.fret,
         ),
         flat,
-        position,
+        position: position_of(board, string, grace.fret),
         ghosted: false,
         ties: Ties {
             end: false,

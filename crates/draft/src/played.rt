@@ -18,6 +18,7 @@ pub struct Played {
     pub bend: Bend,
 }
 
+// No Option: its count says that there is none.
 pub(crate) const NO_BEND: Bend = Bend { start: 0, count: 0 };
 
 pub(crate) const NO_PLAY: Played = Played {
@@ -29,24 +30,13 @@ pub(crate) const NO_PLAY: Played = Played {
 fn none_text(text: TechniqueText) -> bool
     ensures { result ≡ rule.none_text text }
 {
-    match text {
-        TechniqueText::NoText => true,
-        TechniqueText::HammerMark => false,
-        TechniqueText::PalmMute => false,
-        TechniqueText::LetRing => false,
-    }
+    text == TechniqueText::NoText
 }
 
 fn none_yet(technique: Technique) -> bool
     ensures { result ≡ rule.none_yet technique }
 {
-    match technique {
-        Technique::NoTechnique => true,
-        Technique::Bend => false,
-        Technique::Hammer => false,
-        Technique::PullOff => false,
-        Technique::Slide => false,
-    }
+    technique == Technique::NoTechnique
 }
 
 // Palm mute overwrites the hammer mark; let ring does not.
@@ -54,36 +44,30 @@ fn with_text(notes: &Notes, string: usize, p: Played) -> Played
     ensures { (s : List ℕ) (v : ℕ) → played_in s result
         ≡ rule.with_text (read_in v notes.now string).effects (played_in s p) }
 {
-    let text = p.text;
-    let technique = p.technique;
-    let bend = p.bend;
     if field::palm_mute(notes, string) {
         return Played {
             text: TechniqueText::PalmMute,
-            technique,
-            bend,
+            ..p
         };
     }
-    if field::let_ring(notes, string) & none_text(text) {
+    if field::let_ring(notes, string) & none_text(p.text) {
         return Played {
             text: TechniqueText::LetRing,
-            technique,
-            bend,
+            ..p
         };
     }
     p
 }
 
+#[tactic(auto, using(crate::proofs::Steps::bent_is))]
 fn with_bend(bend: Bend, p: Played) -> Played
     ensures { (s : List ℕ) → played_in s result ≡ rule.with_bend (bend_in s bend) (played_in s p) }
 {
-    let technique = p.technique;
-    if (0 < bend.count) & none_yet(technique) {
-        let text = p.text;
+    if (0 < bend.count) & none_yet(p.technique) {
         return Played {
-            text,
             technique: Technique::Bend,
             bend,
+            ..p
         };
     }
     p
@@ -93,23 +77,21 @@ fn hammer_text(text: TechniqueText) -> TechniqueText
     ensures { result ≡ pick (rule.none_text text) TechniqueText.HammerMark text }
 {
     if none_text(text) {
-        return TechniqueText::HammerMark;
+        TechniqueText::HammerMark
+    } else {
+        text
     }
-    text
 }
 
 fn with_hammer(notes: &Notes, string: usize, p: Played) -> Played
     ensures { (s : List ℕ) (v : ℕ) → played_in s result
         ≡ rule.with_hammer (read_in v notes.now string).effects (played_in s p) }
 {
-    let technique = p.technique;
-    if field::hammer(notes, string) & none_yet(technique) {
-        let text = p.text;
-        let bend = p.bend;
+    if field::hammer(notes, string) & none_yet(p.technique) {
         return Played {
-            text: hammer_text(text),
+            text: hammer_text(p.text),
             technique: Technique::Hammer,
-            bend,
+            ..p
         };
     }
     p
@@ -119,15 +101,11 @@ fn with_slide(notes: &Notes, string: usize, v: u32, p: Played) -> Played
     ensures { (s : List ℕ) → played_in s result
         ≡ rule.with_slide (read_in v notes.now string).effects (played_in s p) }
 {
-    let technique = p.technique;
     let slide = field::slide(notes, string, v);
-    if slide.slide & none_yet(technique) {
-        let text = p.text;
-        let bend = p.bend;
+    if slide.slide & none_yet(p.technique) {
         return Played {
-            text,
             technique: Technique::Slide,
-            bend,
+            ..p
         };
     }
     p
@@ -136,7 +114,8 @@ fn with_slide(notes: &Notes, string: usize, v: u32, p: Played) -> Played
 pub(crate) fn played_by(notes: &Notes, string: usize, v: u32, p: Played) -> Played
     ensures { (s : List ℕ) → played_in s result ≡ played_by (note_in s v notes.now (start string)) (played_in s p) }
 {
-    let bend = field::bend(notes, string);
-    let p = with_bend(bend, with_text(notes, string, p));
-    with_slide(notes, string, v, with_hammer(notes, string, p))
+    let p = with_text(notes, string, p);
+    let p = with_bend(field::bend(notes, string), p);
+    let p = with_hammer(notes, string, p);
+    with_slide(notes, string, v, p)
 }

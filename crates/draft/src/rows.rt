@@ -14,7 +14,7 @@ use crate::graces::Graces;
 use crate::played::NO_BEND;
 use crate::voicing::{head_of, levels_of, voicing_of};
 use beat::places::Beat;
-use curve::level::{Level, LevelAfter, level_after};
+use curve::level::{LevelAfter, level_after};
 use format::{NO_RANGE, Range};
 use model::marks::{NO_ARTICULATIONS, listed};
 use model::{
@@ -31,24 +31,20 @@ pub fn level_of(running: u8, notes: &Notes, chord: &[u32]) -> LevelAfter
     level_after(running, levels_of(notes, chord))
 }
 
+#[tactic(auto, unfolding(format::specs::Prog::has))]
 fn value_of(b: &Beat) -> NoteValue
     ensures { (s : List ℕ) (v : ℕ) (w : List ℕ) → result ≡ rule.value_of (beat_in s v b.now w) }
 {
-    let duration = beat::field::duration(b);
-    let tuplet = beat::field::tuplet(b);
     NoteValue {
-        duration,
+        duration: beat::field::duration(b),
         dot: beat::field::flags(b) & 0x01 != 0,
-        tuplet,
+        tuplet: beat::field::tuplet(b),
     }
 }
 
 fn rest_row(place: RowPlace, b: &Beat) -> Draft
     ensures { (s : List ℕ) (v : ℕ) (w : List ℕ) → draft_in s [] result ≡ rule.rest_row place (beat_in s v b.now w) }
 {
-    let ottava = beat::field::ottava(b);
-    let chord = beat::field::chord(b);
-    let range = beat::field::range(b);
     Draft {
         place,
         kind: RowKind::Beat,
@@ -57,13 +53,13 @@ fn rest_row(place: RowPlace, b: &Beat) -> Draft
         text: TechniqueText::NoText,
         technique: Technique::NoTechnique,
         bend: NO_BEND,
-        dynamic: Level::Absent,
+        dynamic: None,
         articulations: NO_ARTICULATIONS,
         arpeggio: Arpeggio::NoArpeggio,
         head: NoteHead::Normal,
-        ottava,
-        chord,
-        beat: range,
+        ottava: beat::field::ottava(b),
+        chord: beat::field::chord(b),
+        beat: beat::field::range(b),
     }
 }
 
@@ -75,36 +71,26 @@ fn chord_row(place: RowPlace, running: u8, b: &Beat, notes: &Notes, chord: &[u32
 {
     let voiced = voicing_of(b, notes, chord, v);
     let played = voiced.played;
-    let text = played.text;
-    let technique = played.technique;
-    let bend = played.bend;
-    let after = level_of(running, notes, chord);
-    let dynamic = after.mark;
-    let marks = voiced.marks;
-    let arpeggio = beat::field::brush(b, v);
-    let head = head_of(notes, chord);
-    let ottava = beat::field::ottava(b);
-    let name = beat::field::chord(b);
-    let range = beat::field::range(b);
     Draft {
         place,
         kind: RowKind::Beat,
         rest: false,
         value: value_of(b),
-        text,
-        technique,
-        bend,
-        dynamic,
-        articulations: listed(marks),
-        arpeggio,
-        head,
-        ottava,
-        chord: name,
-        beat: range,
+        text: played.text,
+        technique: played.technique,
+        bend: played.bend,
+        dynamic: level_of(running, notes, chord).mark,
+        articulations: listed(voiced.marks),
+        arpeggio: beat::field::brush(b, v),
+        head: head_of(notes, chord),
+        ottava: beat::field::ottava(b),
+        chord: beat::field::chord(b),
+        beat: beat::field::range(b),
     }
 }
 
 // A beat in which no note sounds is a rest.
+#[tactic(auto, using(crate::proofs::Walks::row_rest, crate::proofs::Walks::row_chord))]
 pub fn beat_row(
     place: RowPlace,
     running: u8,
@@ -118,10 +104,11 @@ pub fn beat_row(
         ≡ rule.beat_row place board flat running (beat_in s v b.now notes.now)
         (chord_in s v notes.now chord.now) }
 {
-    if chord.len() == 0 {
-        return rest_row(place, b);
+    if chord.is_empty() {
+        rest_row(place, b)
+    } else {
+        chord_row(place, running, b, notes, chord, v)
     }
-    chord_row(place, running, b, notes, chord, v)
 }
 
 // The row of graces that give it so much; its bytes are those of their beat.
@@ -129,9 +116,6 @@ pub fn beat_row(
 pub fn grace_row(place: RowPlace, beat: Range, x: Graces) -> Draft
     ensures { result ≡ grace_draft place beat x }
 {
-    let text = x.text;
-    let technique = x.technique;
-    let head = x.head;
     Draft {
         place,
         kind: RowKind::Grace,
@@ -139,15 +123,15 @@ pub fn grace_row(place: RowPlace, beat: Range, x: Graces) -> Draft
         value: NoteValue {
             duration: Duration::ThirtySecond,
             dot: false,
-            tuplet: Tuplet::NoTuplet,
+            tuplet: None,
         },
-        text,
-        technique,
+        text: x.text,
+        technique: x.technique,
         bend: NO_BEND,
-        dynamic: Level::Absent,
+        dynamic: None,
         articulations: NO_ARTICULATIONS,
         arpeggio: Arpeggio::NoArpeggio,
-        head,
+        head: x.head,
         ottava: Ottava::NoOttava,
         chord: NO_RANGE,
         beat,

@@ -7,9 +7,10 @@ use entries::points::POINT_WORDS;
 use entries::rows::ROW_WORDS;
 use entries::texts::TEXT_WORDS;
 use entries::tracks::TRACK_WORDS;
-use show::form::PAGE;
-use show::input::Input;
+use model::Answer;
+use show::Tables;
 use std::io;
+use std::io::{BufWriter, Write};
 
 // One byte more than is taken, to tell a longer file.
 const ROOM: usize = 1048577;
@@ -26,61 +27,58 @@ const POINTS: usize = 16384 * POINT_WORDS;
 
 const TEXTS: usize = 4096 * TEXT_WORDS;
 
-fn dump(
-    rt: &(impl io::Input + Print + Eprint),
-    input: &mut [u8; ROOM],
-    bars: &mut [u32; BARS],
-    tracks: &mut [u32; TRACKS],
-    rows: &mut [u32; ROWS],
-    members: &mut [u32; MEMBERS],
-    points: &mut [u32; POINTS],
-    texts: &mut [u32; TEXTS],
+fn print(
+    rt: &(impl Print + Alloc),
+    data: &[u8],
+    answer: Answer,
+    tables: Tables<'_>,
 ) -> io::Result<()> {
-    let Input::Bytes(n) = show::input::read(&mut rt.reader(), input) else {
-        return rt.eprintln("dump: standard input could not be read");
-    };
-    if n == ROOM {
-        return rt.eprintln("dump: the file has more than 1,048,576 bytes");
-    }
-    let data = bin::text(input, 0, n);
-    let answer = reader::read(data, bars, tracks, rows, members, points, texts);
-    let mut page = [0u8; PAGE];
-    let s = show::dump(
-        rt,
-        &mut page,
-        show::PRINTED,
-        data,
-        answer,
-        bars,
-        tracks,
-        rows,
-        members,
-        points,
-        texts,
-    );
-    let s = show::flush(rt, &page, s);
-    if s.failed {
-        return rt.eprintln("dump: standard output could not be written");
-    }
-    Ok(())
+    let mut out = BufWriter::new(rt.alloc(), io::writer(rt))?;
+    show::dump(&mut out, data, answer, tables)?;
+    out.flush()
 }
 
-fn main(rt: HostRuntime) -> io::Result<()> {
-    let mut input = [0u8; ROOM];
-    let mut bars = [0u32; BARS];
-    let mut tracks = [0u32; TRACKS];
-    let mut rows = [0u32; ROWS];
-    let mut members = [0u32; MEMBERS];
-    let mut points = [0u32; POINTS];
-    let mut texts = [0u32; TEXTS];
-    dump(
-        &rt,
-        &mut input,
+fn print_file(rt: &(impl Print + Eprint + Alloc), data: &[u8]) -> io::Result<()> {
+    let mut bars = [0; BARS];
+    let mut tracks = [0; TRACKS];
+    let mut rows = [0; ROWS];
+    let mut members = [0; MEMBERS];
+    let mut points = [0; POINTS];
+    let mut texts = [0; TEXTS];
+    let answer = reader::read(
+        data,
         &mut bars,
         &mut tracks,
         &mut rows,
         &mut members,
         &mut points,
         &mut texts,
-    )
+    );
+    let tables = Tables {
+        bars: &bars,
+        tracks: &tracks,
+        rows: &rows,
+        members: &members,
+        points: &points,
+        texts: &texts,
+    };
+    if print(rt, data, answer, tables).is_err() {
+        return rt.eprintln("dump: standard output could not be written");
+    }
+    Ok(())
+}
+
+fn dump(rt: &(impl io::Input + Print + Eprint + Alloc), room: &mut [u8; ROOM]) -> io::Result<()> {
+    let Ok(data) = show::input::read(&mut rt.reader(), room) else {
+        return rt.eprintln("dump: standard input could not be read");
+    };
+    if data.len() == ROOM {
+        return rt.eprintln("dump: the file has more than 1,048,576 bytes");
+    }
+    print_file(rt, data)
+}
+
+fn main(rt: HostRuntime) -> io::Result<()> {
+    let mut room = [0; ROOM];
+    dump(&rt, &mut room)
 }

@@ -1,13 +1,12 @@
 -- A beat of plain notes is counted: a row, and a member for each string that sounds.
-use Prim.Native.Nat.{ℕ, zero, suc, ◌+◌, ◌≤◌, ◌<◌}
+use Prim.Native.Nat.{ℕ, zero, suc, ◌+◌, ◌%◌, ◌≤◌, ◌<◌}
+use native.Mathlib.Nat.{mod-eq_of_lt}
 use native.Mathlib.Omega.{arith}
 use mathlib.Core.Path.{◌≡◌, refl, sym, ap, ◌∙◌}
 use mathlib.Core.List.{List, [], ◌∷◌}
 use mathlib.Core.Bool.{Bool, true, false, not, ◌&&◌}
 use lib.Count.{ones}
-use lib.Dec.{eqb}
 use lib.ListN.{length}
-use borrow.Author.Tests.{eqb-true}
 use Rattle.format.specs.Text.{TextRead, pick, no_text}
 use Rattle.format.specs.Prog.{has}
 use Rattle.note.specs.declared.marks.NoteEffects.{NoteEffects}
@@ -16,26 +15,23 @@ use Rattle.note.specs.Note.{NoteIs}
 use Rattle.note.specs.Notes.{string_bit}
 use Rattle.note.specs.Points.{BendPoint}
 use Rattle.note.specs.Hop.{AllUnmarked, count_from, string_count}
-use Rattle.note.proofs.Strings.{all_at}
+use Rattle.note.proofs.Hop.{strings_counted}
 use Rattle.beat.specs.Beat.{BeatIs}
 use Rattle.beat.specs.Hop.{Unmarked}
 use Rattle.score.specs.declared.KeptCounts.{KeptCounts}
+use Rattle.score.specs.declared.Tally.{Tally}
 use Rattle.score.specs.Sounding.{sounds_on}
 use Rattle.score.specs.Page.{bend_room, bend_rooms, empty_bytes, has_text}
-use Rattle.words.specs.Counted.{one_note, one_grace, grace_of, heard, kept_with, kept_of, count_tally}
-use Rattle.words.specs.Words.{word_plus, LARGEST}
-use Rattle.into_losses.proofs.Sums.{plus_none}
-use Rattle.enter.specs.declared.Progress.{Progress}
-use Rattle.enter.specs.Steps.{tally_of}
+use Rattle.words.specs.Counted.{one_note, one_grace, grace_of, heard, kept_with, kept_of, strings_on, count_tally, count_beat}
+use Rattle.words.specs.Words.{word_plus}
+use Rattle.words.specs.Meant.{walk_of}
 use Rattle.enter.proofs.Plainly.{with_kept}
 
 -- ---- how many strings sound: the bits of a set
-abbrev counts : ℕ → Bool
-counts m = eqb (ones m) (string_count m)
-
 count_ones : (m : ℕ) → m < 128 → ones m ≡ string_count m
-unfolding ones string_count count_from has string_bit
-count_ones m h = eqb-true _ _ (all_at 128 counts refl m h)
+count_ones m h =
+    let same : m % 128 ≡ m = mod-eq_of_lt h in
+    rw same at (strings_counted m (omega arith))
 
 -- ---- over the notes of a beat
 module _ (bits strings mask : ℕ) (h : (i : ℕ) → i < 7 → has mask (string_bit i) ≡ sounds_on strings bits i) where
@@ -83,20 +79,25 @@ no_text_lem x e = ap (λ (t : TextRead). x.head.kept && not (empty_bytes t.bytes
     by false = refl
 
 -- ---- the beat
-module _ {bits mask : ℕ} {kept : KeptCounts} (strings : ℕ) (progress : Progress) (m : mask < 128) (h : (i : ℕ) → i < 7 → has mask (string_bit i) ≡ sounds_on strings bits i) (e : kept ≡ kept_with (ones mask) 0 progress.kept) (fits : progress.point_room ≤ LARGEST) where
-  pub counted_plain : (x : BeatIs) (lost : List ℕ) → Unmarked bits x → tally_of (with_kept kept progress) lost ≡ count_tally strings x (tally_of progress lost)
+module _ {bits mask : ℕ} {kept : KeptCounts} {room : ℕ} (strings : ℕ) (tally : Tally) (m : mask < 128) (h : (i : ℕ) → i < 7 → has mask (string_bit i) ≡ sounds_on strings bits i) (e : kept ≡ kept_with (ones mask) 0 tally.kept) (o : room ≡ word_plus tally.point_room 0) where
+  pub counted_plain : (x : BeatIs) → Unmarked bits x → with_kept kept room tally ≡ count_tally strings x tally
   unfolding count_tally
-  counted_plain x lost u =
+  counted_plain x u =
       let sounding : (i : ℕ) → i < 7 → has mask (string_bit i) ≡ sounds_on strings x.strings i = λ i l. rw u.same (h i l) in
-      let rows : kept ≡ kept_of strings x progress.kept =
+      let both : kept ≡ kept_of strings x tally.kept =
       e ∙ rw (u.kept, heard_all x.strings strings mask sounding x.notes u.seven m, no_graces x.strings strings 0 x.notes u.notes) in
-      let room : progress.point_room ≡ word_plus progress.point_room (bend_rooms x.strings 0 x.notes) =
-      rw (no_rooms x.strings 0 x.notes u.notes, plus_none progress.point_room fits) in
+      let rooms : room ≡ word_plus tally.point_room (bend_rooms x.strings 0 x.notes) =
+      o ∙ rw (no_rooms x.strings 0 x.notes u.notes) in
       λ i. record {
-        kept = rows i;
-        texts = progress.texts;
-        text_room = sym (ap (λ t. pick t (word_plus progress.text_room 1) progress.text_room) (no_text_lem x u.text)) i;
-        point_room = room i;
-        flat = progress.flat;
-        losses = lost;
+        kept = both i;
+        texts = tally.texts;
+        text_room = sym (ap (λ t. pick t (word_plus tally.text_room 1) tally.text_room) (no_text_lem x u.text)) i;
+        point_room = rooms i;
+        flat = tally.flat;
+        losses = tally.losses;
       }
+
+-- only the tally changes
+pub counted : {bars rows members points texts parts : List ℕ} {u : Tally} (track : ℕ) (x : BeatIs) (t : Tally) → u ≡ count_tally (strings_on track parts) x t → walk_of bars rows members points texts parts u ≡ count_beat track x (walk_of bars rows members points texts parts t)
+unfolding count_beat
+counted {bars} {rows} {members} {points} {texts} {parts} track x t e = λ i. walk_of bars rows members points texts parts (e i)

@@ -1,7 +1,6 @@
 -- A plain note, and what a beat of plain notes comes to: one row without marks, and nothing else.
-use Rattle.std.specs.Prelude.{◌≡◌, Bool, true, false, [], ◌∷◌, ℕ}
+use Rattle.std.specs.Prelude.{◌≡◌, Bool, true, false, [], ◌∷◌, ℕ, None}
 use Rattle.model.specs.declared.RowPlace.{RowPlace}
-use Rattle.model.specs.declared.Tempo.TheVariants.{NoTempo}
 use Rattle.curve.specs.Level.{chord_of, level_after}
 use Rattle.note.specs.declared.LeftHand.TheVariants.{NoFinger}
 use Rattle.note.specs.Marks.{no_marks}
@@ -29,7 +28,7 @@ pub record PlainBeat (b : BeatIs) : Type 0 where
   pub lost : reading_losses b ≡ []
   pub built : (board : Fretboard) (memory : Memory) → building_losses b (in_order board (sounding board memory b)) ≡ []
   pub text : has_text b ≡ false
-  pub tempo : b.mix.tempo ≡ NoTempo
+  pub tempo : b.mix.tempo ≡ None
   pub rooms : bend_rooms b.strings 0 b.notes ≡ 0
   pub rows : (place : RowPlace) (board : Fretboard) (flat : Bool) (running : ℕ) (memory : Memory) →
       rows_of place board flat running b (in_order board (sounding board memory b))

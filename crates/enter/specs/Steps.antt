@@ -1,8 +1,6 @@
 -- A beat entered, in two parts: what its notes give, and the rest.
 use Rattle.std.specs.Prelude.{ℕ, List, Bool}
-use Rattle.model.specs.declared.Key.{Key}
 use Rattle.model.specs.declared.RowPlace.{RowPlace}
-use Rattle.score.specs.Bars.{flat_after}
 use Rattle.beat.specs.Beat.{BeatIs}
 use Rattle.score.specs.declared.Fretboard.{Fretboard}
 use Rattle.score.specs.declared.KeptCounts.{KeptCounts}
@@ -15,7 +13,6 @@ use Rattle.format.specs.Text.{pick}
 use Rattle.draft.specs.Chord.{heard_by}
 use Rattle.words.specs.Words.{Words, words, word_plus}
 use Rattle.words.specs.Meant.{rowing_of}
-use Rattle.enter.specs.declared.Progress.{Progress}
 
 pub record Sounded : Type 0 where
   pub rows : List ℕ
@@ -73,36 +70,26 @@ module _ (s : List ℕ) (place : RowPlace) (b : BeatIs) (count : ℕ) (texts : L
 abbrev pub text_room : List ℕ → BeatIs → ℕ → ℕ
 text_room s b room = pick (has_text b) (word_plus room 1) room
 
--- what is counted, with the losses
-abbrev pub tally_of : Progress → List ℕ → Tally
-tally_of p lost =
-    record {
-      kept = p.kept;
-      texts = p.texts;
-      text_room = p.text_room;
-      point_room = p.point_room;
-      flat = p.flat;
-      losses = lost;
-    }
-
-unfoldable pub progress_with : List ℕ → BeatIs → KeptCounts → (texts : ℕ) → Progress → Progress
-progress_with s b kept texts p =
+-- what is counted once the notes, the text and the losses of a beat are
+abbrev pub tallied : KeptCounts → (texts : ℕ) → (losses : List ℕ) → Tally → Tally
+tallied kept texts losses t =
     record {
       kept = kept;
       texts = texts;
-      text_room = text_room s b p.text_room;
-      point_room = word_plus p.point_room (bend_rooms b.strings 0 b.notes);
-      flat = p.flat;
+      text_room = t.text_room;
+      point_room = t.point_room;
+      flat = t.flat;
+      losses = losses;
     }
 
--- ---- a bar with this key is entered
-abbrev pub in_bar : Key → Tally → Tally
-in_bar key tally =
+-- and its rooms
+unfoldable pub with_rooms : List ℕ → BeatIs → Tally → Tally
+with_rooms s b t =
     record {
-      kept = tally.kept;
-      texts = tally.texts;
-      text_room = tally.text_room;
-      point_room = tally.point_room;
-      flat = flat_after tally.flat key;
-      losses = tally.losses;
+      kept = t.kept;
+      texts = t.texts;
+      text_room = text_room s b t.text_room;
+      point_room = word_plus t.point_room (bend_rooms b.strings 0 b.notes);
+      flat = t.flat;
+      losses = t.losses;
     }

@@ -3,17 +3,17 @@ ghost use Rattle.std.specs.Prelude.{◌≡◌, List, ℕ, ◌≤◌};
 ghost use Rattle.beat.specs.Beat.{BeatIs};
 ghost use Rattle.beat.specs.Hop.{Unmarked};
 ghost use Rattle.beat.specs.Words.{beat_in};
-ghost use Rattle.words.specs.Counted.{one_note, one_grace, grace_of, graced, kept_with, kept_of, strings_on, count_tally};
+ghost use Rattle.words.specs.Counted.{one_note, one_grace, grace_of, graced, kept_with, kept_of, strings_on};
 ghost use Rattle.words.specs.Counted as spec;
-ghost use Rattle.enter.specs.Steps.{tally_of};
+ghost use Rattle.enter.specs.Pages.{walked, SamePage};
 
-use crate::Progress;
+use crate::Page;
 use beat::places::Beat;
 use draft::sounding::that_sound;
 use into_tracks::parts::string_count_at;
 use note::field;
-use note::marks::GraceNote;
-use note::notes::{first_string, other_strings};
+use note::marks::Grace;
+use note::notes::Strings;
 use note::places::Notes;
 use score::KeptCounts;
 use words::plus;
@@ -25,13 +25,13 @@ struct Heard {
     graces: u32,
 }
 
-fn one_grace(grace: GraceNote) -> u32
+fn one_grace(grace: Option<Grace>) -> u32
     ensures value { result ≡ one_grace grace }
     ensures upper_bound { result ≤ 1 }
 {
     match grace {
-        GraceNote::NoGrace => 0,
-        GraceNote::Before(_) => 1,
+        None => 0,
+        Some(_) => 1,
     }
 }
 
@@ -48,13 +48,11 @@ fn heard_of(b: &Beat, notes: &Notes, strings: u8) -> Heard
 {
     let mut count: u32 = 0;
     let mut graces: u32 = 0;
-    let mut left = that_sound(beat::field::strings(b), strings);
-    while left != 0 {
-        let string = first_string(left);
+    let sounding = that_sound(beat::field::strings(b), strings);
+    for string in Strings::of(sounding) {
         let grace = field::grace(notes, string);
         count += 1;
         graces += one_grace(grace);
-        left = other_strings(left, string);
     }
     Heard {
         notes: count,
@@ -96,53 +94,34 @@ fn kept_of(b: &Beat, notes: &Notes, strings: u8, kept: KeptCounts) -> KeptCounts
     kept
 }
 
-// Nothing is remembered of a track but what it is played on.
-pub fn count_beat(
-    s: &[u8],
-    track: usize,
-    b: &Beat,
-    notes: &Notes,
-    progress: Progress,
-    parts: &[u32],
-) -> Progress
-    ensures { (v : ℕ) (lost : List ℕ)
-        → tally_of result lost
-        ≡ count_tally (strings_on track parts.now)
-        (beat_in s.now v b.now notes.now) (tally_of progress lost) }
-{
-    let before = progress.kept;
-    let kept = kept_of(b, notes, string_count_at(parts, track), before);
-    Progress {
-        kept,
-        texts: progress.texts,
-        text_room: crate::text_room(s, progress.text_room, b),
-        point_room: plus(
-            progress.point_room,
-            into_losses::rooms::bend_rooms(b, notes),
-        ),
-        flat: progress.flat,
+impl Page<'_> {
+    fn string_count(&self, track: usize) -> u8
+        ensures { result ≡ strings_on track self.now.parts.now }
+    {
+        string_count_at(self.parts, track)
     }
-}
 
-// A beat of plain notes: one row, and a member for each string that sounds.
-pub fn count_plain(strings: u8, track: usize, progress: Progress, parts: &[u32]) -> Progress
-    ensures { (x : BeatIs) (lost : List ℕ)
-        → Unmarked strings x
-        → tally_of result lost
-        ≡ count_tally (strings_on track parts.now) x (tally_of progress lost) }
-{
-    let sounding = that_sound(strings, string_count_at(parts, track));
-    let before = progress.kept;
-    let heard = Heard {
-        notes: u32::count_ones(sounding),
-        graces: 0,
-    };
-    let kept = kept_with(before, heard);
-    Progress {
-        kept,
-        texts: progress.texts,
-        text_room: progress.text_room,
-        point_room: progress.point_room,
-        flat: progress.flat,
+    // Nothing is remembered of a track but what it is played on.
+    pub fn count_beat(&mut self, s: &[u8], track: usize, b: &Beat, notes: &Notes)
+        ensures beat { (v : ℕ) → walked self.new ≡ spec.count_beat track (beat_in s.now v b.now notes.now) (walked self.old) }
+        ensures lent { SamePage self.old self.new }
+    {
+        let strings = self.string_count(track);
+        self.tally.kept = kept_of(b, notes, strings, self.tally.kept);
+        crate::count_rooms(&mut self.tally, s, b, notes);
+    }
+
+    // A beat of plain notes: one row, and a member for each string that sounds. It needs no room for points.
+    pub fn count_plain(&mut self, strings: u8, track: usize)
+        ensures beat { (x : BeatIs) → Unmarked strings x → walked self.new ≡ spec.count_beat track x (walked self.old) }
+        ensures lent { SamePage self.old self.new }
+    {
+        let sounding = that_sound(strings, self.string_count(track));
+        let heard = Heard {
+            notes: u32::count_ones(sounding),
+            graces: 0,
+        };
+        self.tally.kept = kept_with(self.tally.kept, heard);
+        self.tally.point_room = plus(self.tally.point_room, 0);
     }
 }

@@ -1,4 +1,5 @@
 -- What is stored is loaded again. Laws only.
+use Rattle.std.specs.Prelude.{None, Some}
 use Prim.Native.Nat.{ℕ, ◌+◌, ◌*◌, ◌≤◌, ◌<◌}
 use mathlib.Core.Path.{◌≡◌, refl}
 use mathlib.Core.List.{List}
@@ -16,14 +17,8 @@ use Rattle.model.specs.declared.Row.{Row}
 use Rattle.model.specs.declared.Member.{Member}
 use Rattle.model.specs.declared.Point.{Point}
 use Rattle.model.specs.declared.Text.{Text}
-use Rattle.entries.specs.declared.BarAt.TheVariants.{ThisBar, NoBar}
-use Rattle.entries.specs.declared.TrackAt.TheVariants.{ThisTrack, NoTrack}
-use Rattle.entries.specs.declared.RowAt.TheVariants.{ThisRow, NoRow}
-use Rattle.entries.specs.declared.MemberAt.TheVariants.{ThisMember, NoMember}
-use Rattle.entries.specs.declared.PointAt.TheVariants.{ThisPoint, NoPoint}
-use Rattle.entries.specs.declared.TextAt.TheVariants.{ThisText, NoTextThere}
 use Rattle.entries.proofs.Fits.{BarFits, TrackFits, RowFits, MemberFits, PointFits, TextFits}
-use Rattle.entries.specs.Words.{bar_stride, bar_words, track_stride, track_words, row_stride, row_words, front_words, back_words, member_stride, member_words, point_stride, point_words, text_stride, text_words, time_of, changes_of, repeats_of, bar_of, bar_at, tunings_of, track_of, track_at, place_of, value_of, playing_of, articulations_of, expression_of, ottava_marks_of, row_of, row_at, member_of, member_at, point_of, point_at, text_of, text_at}
+use Rattle.entries.specs.Words.{bar_stride, bar_words, track_stride, track_words, row_stride, row_words, front_words, back_words, member_stride, member_words, point_stride, point_words, text_stride, text_words, time_of, changes_of, repeats_of, bar_of, bar_at, tunings_of, track_of, track_at, place_of, value_of, playing_of, articulations_of, expression_of, ottava_marks_of, row_of, row_at, member_of, member_at, point_of, point_at, text_of, text_at, entry_at}
 use Rattle.format.specs.Text.{pick}
 use Rattle.model.proofs.KindLaws.{arpeggio_back, cents_back, clef_back, direction_back, duration_back, dynamic_back, ending_back, ending_place_back, finger_back, flag_back, height_back, key_back, note_head_back, ottava_back, passes_back, position_back, program_back, row_kind_back, technique_back, technique_text_back, tempo_back, tuplet_back}
 
@@ -98,45 +93,45 @@ row_back x f =
 
 -- ---- entries of a table
 
-at_is : {A B : Type 0} (of : List ℕ → A) (this : A → B) (none : B) (e w : List ℕ) (x : A) → e ≡ w → 0 < length w → of w ≡ x → pick (eqb (length e) 0) none (this (of e)) ≡ this x
-at_is of this none e w x p l q = rw (p, ne_eqb (length w) 0 (omega arith), q)
+at_is : {A : Type 0} (of : List ℕ → A) (e w : List ℕ) (x : A) → e ≡ w → 0 < length w → of w ≡ x → pick (eqb (length e) 0) None (Some (of e)) ≡ Some x
+at_is of e w x p l q = rw (p, ne_eqb (length w) 0 (omega arith), q)
 
 -- a bar that was stored, and bar p of a table that shows bars
 module _ (t : List ℕ) where
-  pub bar_shown : (es : List Bar) (p : ℕ) (d : Bar) → length es * bar_stride ≤ length t → p < length es → BarFits (get_or es p d) → bar_at (over t (words bar_words es)) p ≡ ThisBar (get_or es p d)
-  unfolding bar_at
-  bar_shown es p d r h f = at_is bar_of ThisBar NoBar _ _ (get_or es p d) (entry_is bar_words bar_stride bar_length t es p d r h) (omega (arith, bar_length (get_or es p d))) (bar_back (get_or es p d) f)
+  pub bar_shown : (es : List Bar) (p : ℕ) (d : Bar) → length es * bar_stride ≤ length t → p < length es → BarFits (get_or es p d) → bar_at (over t (words bar_words es)) p ≡ Some (get_or es p d)
+  unfolding entry_at
+  bar_shown es p d r h f = at_is bar_of _ _ (get_or es p d) (entry_is bar_words bar_stride bar_length t es p d r h) (omega (arith, bar_length (get_or es p d))) (bar_back (get_or es p d) f)
 
 -- a track that was stored, and track p of a table that shows tracks
 module _ (t : List ℕ) where
-  pub track_shown : (es : List Track) (p : ℕ) (d : Track) → length es * track_stride ≤ length t → p < length es → TrackFits (get_or es p d) → track_at (over t (words track_words es)) p ≡ ThisTrack (get_or es p d)
-  unfolding track_at
-  track_shown es p d r h f = at_is track_of ThisTrack NoTrack _ _ (get_or es p d) (entry_is track_words track_stride track_length t es p d r h) (omega (arith, track_length (get_or es p d))) (track_back (get_or es p d) f)
+  pub track_shown : (es : List Track) (p : ℕ) (d : Track) → length es * track_stride ≤ length t → p < length es → TrackFits (get_or es p d) → track_at (over t (words track_words es)) p ≡ Some (get_or es p d)
+  unfolding entry_at
+  track_shown es p d r h f = at_is track_of _ _ (get_or es p d) (entry_is track_words track_stride track_length t es p d r h) (omega (arith, track_length (get_or es p d))) (track_back (get_or es p d) f)
 
 -- a row that was stored, and row p of a table that shows rows
 module _ (t : List ℕ) where
-  pub row_stored : (i : ℕ) (x : Row) → i * row_stride + row_stride ≤ length t → RowFits x → row_at (sets t (i * row_stride) (row_words x)) i ≡ ThisRow x
-  unfolding row_at
-  row_stored i x h f = at_is row_of ThisRow NoRow _ _ x (entry_stored (row_words x) t i row_stride (row_length x) h) (omega (arith, row_length x)) (row_back x f)
+  pub row_stored : (i : ℕ) (x : Row) → i * row_stride + row_stride ≤ length t → RowFits x → row_at (sets t (i * row_stride) (row_words x)) i ≡ Some x
+  unfolding entry_at
+  row_stored i x h f = at_is row_of _ _ x (entry_stored (row_words x) t i row_stride (row_length x) h) (omega (arith, row_length x)) (row_back x f)
 
-  pub row_shown : (es : List Row) (p : ℕ) (d : Row) → length es * row_stride ≤ length t → p < length es → RowFits (get_or es p d) → row_at (over t (words row_words es)) p ≡ ThisRow (get_or es p d)
-  unfolding row_at
-  row_shown es p d r h f = at_is row_of ThisRow NoRow _ _ (get_or es p d) (entry_is row_words row_stride row_length t es p d r h) (omega (arith, row_length (get_or es p d))) (row_back (get_or es p d) f)
+  pub row_shown : (es : List Row) (p : ℕ) (d : Row) → length es * row_stride ≤ length t → p < length es → RowFits (get_or es p d) → row_at (over t (words row_words es)) p ≡ Some (get_or es p d)
+  unfolding entry_at
+  row_shown es p d r h f = at_is row_of _ _ (get_or es p d) (entry_is row_words row_stride row_length t es p d r h) (omega (arith, row_length (get_or es p d))) (row_back (get_or es p d) f)
 
 -- a member that was stored, and member p of a table that shows members
 module _ (t : List ℕ) where
-  pub member_shown : (es : List Member) (p : ℕ) (d : Member) → length es * member_stride ≤ length t → p < length es → MemberFits (get_or es p d) → member_at (over t (words member_words es)) p ≡ ThisMember (get_or es p d)
-  unfolding member_at
-  member_shown es p d r h f = at_is member_of ThisMember NoMember _ _ (get_or es p d) (entry_is member_words member_stride member_length t es p d r h) (omega (arith, member_length (get_or es p d))) (member_back (get_or es p d) f)
+  pub member_shown : (es : List Member) (p : ℕ) (d : Member) → length es * member_stride ≤ length t → p < length es → MemberFits (get_or es p d) → member_at (over t (words member_words es)) p ≡ Some (get_or es p d)
+  unfolding entry_at
+  member_shown es p d r h f = at_is member_of _ _ (get_or es p d) (entry_is member_words member_stride member_length t es p d r h) (omega (arith, member_length (get_or es p d))) (member_back (get_or es p d) f)
 
 -- a point that was stored, and point p of a table that shows points
 module _ (t : List ℕ) where
-  pub point_shown : (es : List Point) (p : ℕ) (d : Point) → length es * point_stride ≤ length t → p < length es → PointFits (get_or es p d) → point_at (over t (words point_words es)) p ≡ ThisPoint (get_or es p d)
-  unfolding point_at
-  point_shown es p d r h f = at_is point_of ThisPoint NoPoint _ _ (get_or es p d) (entry_is point_words point_stride point_length t es p d r h) (omega (arith, point_length (get_or es p d))) (point_back (get_or es p d) f)
+  pub point_shown : (es : List Point) (p : ℕ) (d : Point) → length es * point_stride ≤ length t → p < length es → PointFits (get_or es p d) → point_at (over t (words point_words es)) p ≡ Some (get_or es p d)
+  unfolding entry_at
+  point_shown es p d r h f = at_is point_of _ _ (get_or es p d) (entry_is point_words point_stride point_length t es p d r h) (omega (arith, point_length (get_or es p d))) (point_back (get_or es p d) f)
 
 -- a text that was stored, and text p of a table that shows texts
 module _ (t : List ℕ) where
-  pub text_shown : (es : List Text) (p : ℕ) (d : Text) → length es * text_stride ≤ length t → p < length es → TextFits (get_or es p d) → text_at (over t (words text_words es)) p ≡ ThisText (get_or es p d)
-  unfolding text_at
-  text_shown es p d r h f = at_is text_of ThisText NoTextThere _ _ (get_or es p d) (entry_is text_words text_stride text_length t es p d r h) (omega (arith, text_length (get_or es p d))) (text_back (get_or es p d) f)
+  pub text_shown : (es : List Text) (p : ℕ) (d : Text) → length es * text_stride ≤ length t → p < length es → TextFits (get_or es p d) → text_at (over t (words text_words es)) p ≡ Some (get_or es p d)
+  unfolding entry_at
+  text_shown es p d r h f = at_is text_of _ _ (get_or es p d) (entry_is text_words text_stride text_length t es p d r h) (omega (arith, text_length (get_or es p d))) (text_back (get_or es p d) f)

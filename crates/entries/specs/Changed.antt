@@ -1,12 +1,11 @@
 -- An entry with one field changed, and the law that this changes one word of it. With `over_turn` of tables: of one
 -- entry among many.
-use Rattle.std.specs.Prelude.{Bool}
+use Rattle.std.specs.Prelude.{Bool, Option, ℕ}
 use Rattle.model.specs.declared.Bar.{Bar}
 use Rattle.model.specs.declared.EndingPlace.{EndingPlace}
 use Rattle.model.specs.declared.Member.{Member}
 use Rattle.model.specs.declared.Row.{Row}
 use Rattle.model.specs.declared.Technique.{Technique}
-use Rattle.model.specs.declared.Tempo.{Tempo}
 
 abbrev pub with_place : EndingPlace → Bar → Bar
 with_place p b = record {
@@ -22,7 +21,7 @@ with_place p b = record {
   tempo = b.tempo;
 }
 
-abbrev pub with_tempo : Tempo → Bar → Bar
+abbrev pub with_tempo : Option ℕ → Bar → Bar
 with_tempo x b = record {
   time = b.time;
   key = b.key;

@@ -1,18 +1,12 @@
 -- The words of an entry of each table, the entry that words stand for, and entry i of a table. A word that is missing is 0.
-use Rattle.std.specs.Prelude.{ℕ, ◌+◌, ◌*◌, ◌/◌, ◌%◌, List, [], ◌∷◌, ◌++◌, length, get_or, eqb}
+use Rattle.std.specs.Prelude.{ℕ, ◌+◌, ◌*◌, ◌/◌, ◌%◌, List, [], ◌∷◌, ◌++◌, length, get_or, eqb, None, Option, Some}
 use Rattle.format.specs.declared.Range.{Range}
 use Rattle.format.specs.Text.{pick}
 use Rattle.tables.specs.Table.{entry}
 use Rattle.model.specs.Kinds.{ending_place_word, ending_place_of, direction_word, direction_of, clef_word, clef_of, row_kind_word, row_kind_of, duration_word, duration_of, technique_word, technique_of, technique_text_word, technique_text_of, dynamic_word, dynamic_of, arpeggio_word, arpeggio_of, note_head_word, note_head_of, ottava_word, ottava_of, mode_word, fifths_word, key_of, ending_word, ending_of, passes_word, passes_of, tempo_word, tempo_of, program_word, program_of, actual_word, normal_word, tuplet_of, peak_word, height_word, height_of, flag_word, flag_of, string_word, fret_word, position_of, finger_word, finger_of, cents_word, cents_of, per_mille_of}
 use Rattle.model.specs.declared.Member.{Member}
-use Rattle.entries.specs.declared.MemberAt.{MemberAt}
-use Rattle.entries.specs.declared.MemberAt.TheVariants.{ThisMember, NoMember}
 use Rattle.model.specs.declared.Point.{Point}
-use Rattle.entries.specs.declared.PointAt.{PointAt}
-use Rattle.entries.specs.declared.PointAt.TheVariants.{ThisPoint, NoPoint}
 use Rattle.model.specs.declared.Text.{Text}
-use Rattle.entries.specs.declared.TextAt.{TextAt}
-use Rattle.entries.specs.declared.TextAt.TheVariants.{ThisText, NoTextThere}
 use Rattle.model.specs.declared.Articulations.{Articulations}
 use Rattle.model.specs.declared.Changes.{Changes}
 use Rattle.model.specs.declared.Expression.{Expression}
@@ -26,12 +20,10 @@ use Rattle.model.specs.declared.Tunings.{Tunings}
 use Rattle.model.specs.declared.Bar.{Bar}
 use Rattle.model.specs.declared.Track.{Track}
 use Rattle.model.specs.declared.Row.{Row}
-use Rattle.entries.specs.declared.BarAt.{BarAt}
-use Rattle.entries.specs.declared.BarAt.TheVariants.{ThisBar, NoBar}
-use Rattle.entries.specs.declared.TrackAt.{TrackAt}
-use Rattle.entries.specs.declared.TrackAt.TheVariants.{ThisTrack, NoTrack}
-use Rattle.entries.specs.declared.RowAt.{RowAt}
-use Rattle.entries.specs.declared.RowAt.TheVariants.{ThisRow, NoRow}
+
+-- Entry i of a table of entries of K words, or none where the table does not hold it whole; f says what words stand for
+unfoldable pub entry_at : {A : Type 0} → (List ℕ → A) → List ℕ → (i K : ℕ) → Option A
+entry_at f t i K = pick (eqb (length (entry t i K)) 0) None (Some (f (entry t i K)))
 
 -- a text's range is two words, start and end
 abbrev pub range_of : ℕ → ℕ → Range
@@ -79,8 +71,8 @@ bar_of l = record {
   tempo = tempo_of (get_or l 15 0);
 }
 
-unfoldable pub bar_at : List ℕ → ℕ → BarAt
-bar_at t i = pick (eqb (length (entry t i bar_stride)) 0) NoBar (ThisBar (bar_of (entry t i bar_stride)))
+abbrev pub bar_at : List ℕ → ℕ → Option Bar
+bar_at t i = entry_at bar_of t i bar_stride
 
 -- ---- tracks: name, strings and tunings, capo, percussion, tablature, clef, channel, program
 abbrev pub track_stride : ℕ
@@ -117,8 +109,8 @@ track_of l = record {
   program = program_of (get_or l 15 0);
 }
 
-unfoldable pub track_at : List ℕ → ℕ → TrackAt
-track_at t i = pick (eqb (length (entry t i track_stride)) 0) NoTrack (ThisTrack (track_of (entry t i track_stride)))
+abbrev pub track_at : List ℕ → ℕ → Option Track
+track_at t i = entry_at track_of t i track_stride
 
 -- ---- rows
 abbrev pub row_stride : ℕ
@@ -197,8 +189,8 @@ row_of l = record {
   beat = range_of (get_or l 28 0) (get_or l 29 0);
 }
 
-unfoldable pub row_at : List ℕ → ℕ → RowAt
-row_at t i = pick (eqb (length (entry t i row_stride)) 0) NoRow (ThisRow (row_of (entry t i row_stride)))
+abbrev pub row_at : List ℕ → ℕ → Option Row
+row_at t i = entry_at row_of t i row_stride
 
 -- ---- members: key, flat preference, string and fret, ghost, tie end, tie start, finger
 abbrev pub member_stride : ℕ
@@ -223,8 +215,8 @@ member_of l = record {
   finger = finger_of (get_or l 7 0);
 }
 
-unfoldable pub member_at : List ℕ → ℕ → MemberAt
-member_at t i = pick (eqb (length (entry t i member_stride)) 0) NoMember (ThisMember (member_of (entry t i member_stride)))
+abbrev pub member_at : List ℕ → ℕ → Option Member
+member_at t i = entry_at member_of t i member_stride
 
 -- ---- curve points: position, height
 abbrev pub point_stride : ℕ
@@ -236,8 +228,8 @@ point_words p = p.position.0 ∷ cents_word p.height ∷ []
 unfoldable pub point_of : List ℕ → Point
 point_of l = record { position = per_mille_of (get_or l 0 0); height = cents_of (get_or l 1 0) }
 
-unfoldable pub point_at : List ℕ → ℕ → PointAt
-point_at t i = pick (eqb (length (entry t i point_stride)) 0) NoPoint (ThisPoint (point_of (entry t i point_stride)))
+abbrev pub point_at : List ℕ → ℕ → Option Point
+point_at t i = entry_at point_of t i point_stride
 
 -- ---- texts: bar, track, range
 abbrev pub text_stride : ℕ
@@ -249,5 +241,5 @@ text_words x = x.bar ∷ x.track ∷ x.range.start % 4294967296 ∷ x.range.end 
 unfoldable pub text_of : List ℕ → Text
 text_of l = record { bar = get_or l 0 0; track = get_or l 1 0; range = range_of (get_or l 2 0) (get_or l 3 0) }
 
-unfoldable pub text_at : List ℕ → ℕ → TextAt
-text_at t i = pick (eqb (length (entry t i text_stride)) 0) NoTextThere (ThisText (text_of (entry t i text_stride)))
+abbrev pub text_at : List ℕ → ℕ → Option Text
+text_at t i = entry_at text_of t i text_stride

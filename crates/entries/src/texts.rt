@@ -4,54 +4,43 @@ ghost use Rattle.std.proofs.lemmas.List.Edits.{sets};
 ghost use Rattle.tables.specs.Table.{room};
 ghost use Rattle.entries.specs.Words.{text_stride, text_words, text_of, text_at};
 
-use crate::TextAt;
+use crate::Entry;
 use model::Text;
 
 pub const TEXT_WORDS: usize = 4;
 
+#[tactic(auto, unfolding(crate::specs::Words::text_words))]
 pub fn text_words(x: Text) -> [u32; 4]
     ensures { result ≡ text_words x }
 {
-    let range = x.range;
     [
         x.bar,
         x.track,
-        tables::low(range.start),
-        tables::low(range.end),
+        tables::low(x.range.start),
+        tables::low(x.range.end),
     ]
 }
 
-// The text that words stand for, at any number of them: one that is missing is 0.
-pub fn text_of(w: &[u32]) -> Text
-    ensures { result ≡ text_of w.now }
-{
-    let range = crate::range_of(tables::load(w, 2), tables::load(w, 3));
-    Text {
-        bar: tables::load(w, 0),
-        track: tables::load(w, 1),
-        range,
+impl Entry for Text {
+    ghost WORDS = { text_stride };
+
+    const WORDS: usize = TEXT_WORDS;
+
+    ghost words = { text_words };
+
+    ghost meant = { text_of };
+
+    #[tactic(auto, unfolding(crate::specs::Words::text_of))]
+    fn of_words(w: &[u32]) -> Text {
+        Text {
+            bar: tables::load(w, 0),
+            track: tables::load(w, 1),
+            range: crate::range_of(tables::load(w, 2), tables::load(w, 3)),
+        }
     }
-}
 
-pub fn store_text(texts: &mut [u32], i: usize, x: Text)
-    ensures { texts.new ≡ sets texts.old (i * text_stride) (text_words x) }
-{
-    let w = text_words(x);
-    tables::store_entry(texts, i, &w);
-}
-
-pub fn text_at(texts: &[u32], i: usize) -> TextAt
-    ensures { result ≡ text_at texts.now i }
-{
-    let w = tables::entry_of(texts, i, TEXT_WORDS);
-    if w.len() == 0 {
-        return TextAt::NoTextThere;
+    fn store(self, table: &mut [u32], i: usize) {
+        let w = text_words(self);
+        tables::store_entry(table, i, &w);
     }
-    TextAt::ThisText(text_of(w))
-}
-
-pub fn text_room(texts: &[u32]) -> usize
-    ensures { result ≡ room texts.now text_stride }
-{
-    tables::room_of(texts, TEXT_WORDS)
 }

@@ -4,38 +4,36 @@ ghost use Rattle.std.proofs.lemmas.List.Edits.{sets};
 ghost use Rattle.tables.specs.Table.{room};
 ghost use Rattle.entries.specs.Words.{track_stride, track_words, tunings_of, track_of, track_at};
 
-use crate::TrackAt;
-use model::{Track, Tunings, kinds};
+use crate::Entry;
+use model::{Clef, Track, Tunings, kinds};
 
 pub const TRACK_WORDS: usize = 16;
 
+#[tactic(auto, unfolding(crate::specs::Words::track_words))]
 pub fn track_words(x: Track) -> [u32; 16]
     ensures { result ≡ track_words x }
 {
-    let name = x.name;
-    let tunings = x.tunings;
-    let clef = x.clef;
-    let program = x.program;
     [
-        tables::low(name.start),
-        tables::low(name.end),
-        kinds::byte_word(tunings.strings),
-        kinds::byte_word(tunings.first),
-        kinds::byte_word(tunings.second),
-        kinds::byte_word(tunings.third),
-        kinds::byte_word(tunings.fourth),
-        kinds::byte_word(tunings.fifth),
-        kinds::byte_word(tunings.sixth),
-        kinds::byte_word(tunings.seventh),
-        kinds::byte_word(x.capo),
+        tables::low(x.name.start),
+        tables::low(x.name.end),
+        u32::from(x.tunings.strings),
+        u32::from(x.tunings.first),
+        u32::from(x.tunings.second),
+        u32::from(x.tunings.third),
+        u32::from(x.tunings.fourth),
+        u32::from(x.tunings.fifth),
+        u32::from(x.tunings.sixth),
+        u32::from(x.tunings.seventh),
+        u32::from(x.capo),
         kinds::flag_word(x.percussion),
         kinds::flag_word(x.tablature),
-        kinds::clef_word(clef),
-        kinds::byte_word(x.channel),
-        kinds::program_word(program),
+        u32::from(x.clef),
+        u32::from(x.channel),
+        kinds::program_word(x.program),
     ]
 }
 
+#[tactic(auto, unfolding(crate::specs::Words::tunings_of))]
 fn tunings_of(w: &[u32]) -> Tunings
     ensures { result ≡ tunings_of w.now }
 {
@@ -51,45 +49,31 @@ fn tunings_of(w: &[u32]) -> Tunings
     }
 }
 
-// The track that words stand for, at any number of them: one that is missing is 0.
-pub fn track_of(w: &[u32]) -> Track
-    ensures { result ≡ track_of w.now }
-{
-    let name = crate::range_of(tables::load(w, 0), tables::load(w, 1));
-    let tunings = tunings_of(w);
-    let clef = kinds::clef_of(tables::load(w, 13));
-    let program = kinds::program_of(tables::load(w, 15));
-    Track {
-        name,
-        tunings,
-        capo: crate::byte_at(w, 10),
-        percussion: crate::flag_at(w, 11),
-        tablature: crate::flag_at(w, 12),
-        clef,
-        channel: crate::byte_at(w, 14),
-        program,
+impl Entry for Track {
+    ghost WORDS = { track_stride };
+
+    const WORDS: usize = TRACK_WORDS;
+
+    ghost words = { track_words };
+
+    ghost meant = { track_of };
+
+    #[tactic(auto, unfolding(crate::specs::Words::track_of))]
+    fn of_words(w: &[u32]) -> Track {
+        Track {
+            name: crate::range_of(tables::load(w, 0), tables::load(w, 1)),
+            tunings: tunings_of(w),
+            capo: crate::byte_at(w, 10),
+            percussion: crate::flag_at(w, 11),
+            tablature: crate::flag_at(w, 12),
+            clef: Clef::from(tables::load(w, 13)),
+            channel: crate::byte_at(w, 14),
+            program: kinds::program_of(tables::load(w, 15)),
+        }
     }
-}
 
-pub fn store_track(tracks: &mut [u32], i: usize, x: Track)
-    ensures { tracks.new ≡ sets tracks.old (i * track_stride) (track_words x) }
-{
-    let w = track_words(x);
-    tables::store_entry(tracks, i, &w);
-}
-
-pub fn track_at(tracks: &[u32], i: usize) -> TrackAt
-    ensures { result ≡ track_at tracks.now i }
-{
-    let w = tables::entry_of(tracks, i, TRACK_WORDS);
-    if w.len() == 0 {
-        return TrackAt::NoTrack;
+    fn store(self, table: &mut [u32], i: usize) {
+        let w = track_words(self);
+        tables::store_entry(table, i, &w);
     }
-    TrackAt::ThisTrack(track_of(w))
-}
-
-pub fn track_room(tracks: &[u32]) -> usize
-    ensures { result ≡ room tracks.now track_stride }
-{
-    tables::room_of(tracks, TRACK_WORDS)
 }

@@ -5,8 +5,7 @@ use Rattle.model.specs.declared.Answer.{Answer}
 use Rattle.model.specs.declared.Outcome.{Outcome}
 use Rattle.model.specs.declared.Sizes.{Sizes}
 use Rattle.model.specs.Answers.{numbers_of}
-use Rattle.utf8.specs.declared.Coded.{Coded}
-use Rattle.utf8.specs.Answers.{number_of, length_of}
+use Rattle.utf8.specs.Answers.{Coded, number_of, length_of}
 
 abbrev pub size_words : Sizes → List ℕ
 size_words x = x.bars ∷ x.tracks ∷ x.rows ∷ x.members ∷ x.points ∷ x.texts ∷ []

@@ -12,7 +12,7 @@ pub mod titles;
 
 use model::{Answer, answers};
 
-// The words of what is said of a reading.
+// The words of what is said of a reading, in the order in which C gets them.
 const SAID: usize = 17;
 
 fn said_words(answer: Answer) -> [u32; SAID]

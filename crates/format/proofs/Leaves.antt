@@ -14,23 +14,22 @@ use borrow.Author.Tests.{le-ltb, lt-ltb, le-leb, lt-leb}
 use Rattle.format.specs.declared.Counted.{Counted}
 use Rattle.format.specs.declared.Stop.{Stop}
 use Rattle.format.specs.declared.Stop.TheVariants.{Ends, Count}
-use Rattle.format.specs.declared.Place.TheVariants.{At, Stopped}
-use Rattle.format.specs.declared.Place.{Place}
+use Rattle.std.specs.Prelude.{Ok, Err}
 use Rattle.format.specs.Count.{NEGATIVE, limit_of, too_many, little, word_at, as_word}
 use Rattle.format.specs.Sign.{not_negative}
 use Rattle.format.specs.Step.{byte, pass, counted}
-use Rattle.format.specs.Prog.{Prog, ret, ok, stopped, run, bind}
-use Rattle.format.specs.Place.{resume, reached, Reaches, Gives}
+use Rattle.format.specs.Prog.{Prog, Res, ret, ok, stopped, run, bind}
+use Rattle.format.specs.Place.{Place, resume, told, Reaches, Comes, Reads}
 use Rattle.format.specs.Fields.{u8, number, u16, u32, skip, sign_byte, count}
-use Rattle.format.proofs.Rules.{starting, stopping, returned, returned_at}
+use Rattle.format.proofs.Rules.{starting, read, read_stop}
 use Rattle.format.proofs.Run.{run_bind, run_ret, read_goes, read_ends, byte_goes, count_goes, count_over, clash}
 
 -- what a leaf returns: from a known position, to another or to the end of the bytes
-came : {A : Type 0} {p : Prog A} {none a : A} {s : List ℕ} {from : Place} {at n : ℕ} → from ≡ At at → run p s at ≡ ok a n → Gives p none s from a (At n)
-came e h = returned_at (starting e (record { reaches = h }))
+came : {A : Type 0} {p : Prog A} {a : A} {s : List ℕ} {from : Place} {at n : ℕ} → from ≡ Ok at → run p s at ≡ ok a n → Reads p s from (Ok (a, n))
+came e h = read (rw e (record { comes = h }))
 
-ended : {A : Type 0} {p : Prog A} {none : A} {s : List ℕ} {from : Place} {at : ℕ} → from ≡ At at → run p s at ≡ stopped Ends → Gives p none s from none (Stopped Ends)
-ended e h = stopping (starting e (record { reaches = h }))
+ended : {A : Type 0} {p : Prog A} {s : List ℕ} {from : Place} {at : ℕ} {x : Stop} → from ≡ Ok at → run p s at ≡ stopped x → Reads p s from (Err x)
+ended e h = read_stop (rw e (record { comes = h }))
 
 run_u8 : (s : List ℕ) (at : ℕ) → at < length s → run u8 s at ≡ ok (get_or s at 0) (at + 1)
 unfolding u8
@@ -40,30 +39,29 @@ u8_short : (s : List ℕ) (at : ℕ) → length s ≤ at → run u8 s at ≡ sto
 unfolding u8
 u8_short s at h = read_ends s at byte (λ b. ret b) (omega arith)
 
-module _ {s : List ℕ} {from : Place} {at : ℕ} (e : from ≡ At at) where
-  pub u8_goes : at < length s → Gives u8 0 s from (get_or s at 0) (At (at + 1))
+module _ {s : List ℕ} {from : Place} {at : ℕ} (e : from ≡ Ok at) where
+  pub u8_goes : at < length s → Reads u8 s from (Ok (get_or s at 0, at + 1))
   u8_goes h = came e (run_u8 s at h)
 
-  pub u8_ends : length s ≤ at → Gives u8 0 s from 0 (Stopped Ends)
+  pub u8_ends : length s ≤ at → Reads u8 s from (Err Ends)
   u8_ends h = ended e (u8_short s at h)
 
-  pub skip_goes : (n : ℕ) → at + n ≤ length s → Gives (skip n) tt s from tt (At (at + n))
+  pub skip_goes : (n : ℕ) → at + n ≤ length s → Reaches (skip n) s from tt (Ok (at + n))
   unfolding skip
-  skip_goes n h = came e (read_goes s at (pass n) (λ _. ret tt) h refl ∙ run_ret s (at + n) tt)
+  skip_goes n h = starting e (record { reaches = read_goes s at (pass n) (λ _. ret tt) h refl ∙ run_ret s (at + n) tt })
 
-  pub skip_ends : (n : ℕ) → length s < at + n → Gives (skip n) tt s from tt (Stopped Ends)
+  pub skip_ends : (n : ℕ) → length s < at + n → Reaches (skip n) s from tt (Err Ends)
   unfolding skip
-  skip_ends n h = ended e (read_ends s at (pass n) (λ _. ret tt) h)
+  skip_ends n h = starting e (record { reaches = read_ends s at (pass n) (λ _. ret tt) h })
 
 -- the code reads the byte and hands its sign on
 sign_run : (s : List ℕ) (from : Place) → resume sign_byte s from ≡ resume (bind u8 (λ b. ret (not_negative b))) s from
 unfolding run bind u8 sign_byte
-sign_run s (At n) = refl
-sign_run s (Stopped x) = refl
+sign_run s (Ok n) = refl
+sign_run s (Err x) = refl
 
-pub sign_read : {s : List ℕ} {from to : Place} {given : Bool} → Reaches (bind u8 (λ b. ret (not_negative b))) s from given to
-    → Reaches sign_byte s from given to
-sign_read {s = s} {from = from} h = record { reaches = sign_run s from ∙ h.reaches }
+pub sign_comes : {s : List ℕ} {from : Place} {r : Res Bool} → Comes (bind u8 (λ b. ret (not_negative b))) s from r → Comes sign_byte s from r
+sign_comes {s = s} {from = from} h = record { comes = sign_run s from ∙ h.comes }
 
 -- ---- numbers of every width
 little_next : (s : List ℕ) (at next w : ℕ) → next ≡ at + 1 → at < length s → little (take (suc w) (drop at s)) ≡ get_or s at 0 + 256 * little (take w (drop next s))
@@ -95,8 +93,8 @@ number_short (suc w) s at h = elim (dec_lt at (length s)) [
   | no d ↦ number_cut (suc w) s at (omega arith)
 ]
 
-module _ {s : List ℕ} {from : Place} {at : ℕ} (e : from ≡ At at) where
-  pub u16_goes : {v : ℕ} → at + 2 ≤ length s → v ≡ get_or s at 0 + 256 * get_or s (at + 1) 0 → Gives u16 0 s from v (At (at + 2))
+module _ {s : List ℕ} {from : Place} {at : ℕ} (e : from ≡ Ok at) where
+  pub u16_goes : {v : ℕ} → at + 2 ≤ length s → v ≡ get_or s at 0 + 256 * get_or s (at + 1) 0 → Reads u16 s from (Ok (v, at + 2))
   unfolding little
   u16_goes h g =
       rw g
@@ -104,7 +102,7 @@ module _ {s : List ℕ} {from : Place} {at : ℕ} (e : from ≡ At at) where
       (run_number 2 s at h
       ∙ rw (little_next s at (at + 1) 1 refl (omega arith), little_next s (at + 1) (at + 2) 0 (omega arith) (omega arith), add-zero)))
 
-  pub u32_goes : {v : ℕ} → at + 4 ≤ length s → v ≡ get_or s at 0 + 256 * (get_or s (at + 1) 0 + 256 * (get_or s (at + 2) 0 + 256 * get_or s (at + 3) 0)) → Gives u32 0 s from v (At (at + 4))
+  pub u32_goes : {v : ℕ} → at + 4 ≤ length s → v ≡ get_or s at 0 + 256 * (get_or s (at + 1) 0 + 256 * (get_or s (at + 2) 0 + 256 * get_or s (at + 3) 0)) → Reads u32 s from (Ok (v, at + 4))
   unfolding little
   u32_goes h g =
       rw g
@@ -118,10 +116,10 @@ module _ {s : List ℕ} {from : Place} {at : ℕ} (e : from ≡ At at) where
         add-zero,
       )))
 
-  pub u16_ends : length s < at + 2 → Gives u16 0 s from 0 (Stopped Ends)
+  pub u16_ends : length s < at + 2 → Reads u16 s from (Err Ends)
   u16_ends h = ended e (number_short 1 s at h)
 
-  pub u32_ends : length s < at + 4 → Gives u32 0 s from 0 (Stopped Ends)
+  pub u32_ends : length s < at + 4 → Reads u32 s from (Err Ends)
   u32_ends h = ended e (number_short 3 s at h)
 
 -- ---- a count, read as a number and then judged
@@ -151,29 +149,26 @@ module _ (s : List ℕ) (at : ℕ) where
     | no d ↦ let w = number_short 3 s at (omega arith) in (omega arith, cc)
   ]
 
-module _ {s : List ℕ} {from same next : Place} {at v : ℕ} (c : Counted) (e : from ≡ At at) (read : Reaches u32 s same v next) (d : same ≡ At at) where
-  word : run u32 s at ≡ reached v next
-  word = rw d at read.reaches
+module _ {s : List ℕ} {from : Place} {at : ℕ} (c : Counted) (e : from ≡ Ok at) where
+  pub count_cut : {x : Stop} → Reads u32 s from (Err x) → Comes (count c) s from (stopped x)
+  unfolding count told
+  count_cut {x} read =
+      let w = word_cut s at {x = x} (rw e at read.reads) in
+      rw e (record { comes = read_ends s at (counted c) (λ x. ret x) w.0 ∙ rw w.1 })
 
-  pub count_cut : {x : Stop} → next ≡ Stopped x → Gives (count c) 0 s from 0 next
-  unfolding count
-  count_cut g =
-      let w = word_cut s at (rw g at word) in
-      stopping (starting e (record { reaches = read_ends s at (counted c) (λ x. ret x) w.0 ∙ rw (g, w.1) }))
+  module _ {v n : ℕ} (read : Reads u32 s from (Ok (v, n))) where
+    word : (at + 4 ≤ length s) × (word_at s at ≡ v) × (at + 4 ≡ n)
+    unfolding told
+    word = word_read s at (rw e at read.reads)
 
-  module _ {n : ℕ} (g : next ≡ At n) where
-    pub count_read : too_many c v ≡ false → Gives (count c) 0 s from v next
+    pub count_read : too_many c v ≡ false → Reads (count c) s from (Ok (v, n))
     unfolding count
     count_read o =
-        let w = word_read s at (rw g at word) in
-        returned g
-        (starting e
-        (record { reaches = count_goes s at c (λ x. ret x) w.0 (rw w.1 o) ∙ run_ret s (at + 4) (word_at s at) ∙ rw (g, w.1, w.2) }))
+        let w = word in
+        came e (count_goes s at c (λ x. ret x) w.0 (rw w.1 o) ∙ run_ret s (at + 4) (word_at s at) ∙ rw (w.1, w.2))
 
-    pub count_refused : too_many c v ≡ true → Gives (count c) 0 s from 0 (Stopped (Count c v (as_word at)))
+    pub count_refused : too_many c v ≡ true → Reads (count c) s from (Err (Count c v (as_word at)))
     unfolding count
     count_refused o =
-        let w = word_read s at (rw g at word) in
-        stopping
-        (starting e
-        (record { reaches = count_over s at c (λ x. ret x) w.0 (rw w.1 o) ∙ rw w.1 }))
+        let w = word in
+        ended e (count_over s at c (λ x. ret x) w.0 (rw w.1 o) ∙ rw w.1)

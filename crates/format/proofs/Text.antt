@@ -10,18 +10,16 @@ use lib.Seq.{slice, slice_empty, drop-drop, take-take, take-suc, length-slice, d
 use lib.Dec.{eqb}
 use borrow.Author.Tests.{eq-eqb, ne_eqb}
 use Rattle.format.specs.declared.Range.{Range}
-use Rattle.format.specs.declared.Place.{Place}
-use Rattle.format.specs.declared.Place.TheVariants.{At, Stopped}
-use Rattle.format.specs.declared.Stop.{Stop}
+use Rattle.format.specs.Place.{Place, Comes, ReadsAs}
+use Rattle.std.specs.Prelude.{Ok, Err}
 use Rattle.format.specs.declared.Stop.TheVariants.{Ends}
 use Rattle.format.specs.Text.{TextRead, pick, blank, cut_len, lead_len, keep_len, keep_next, cut, trim, range_of, text_of, no_text, text_in}
 use Rattle.format.specs.Step.{text}
-use Rattle.format.specs.Prog.{Prog, ret}
-use Rattle.format.specs.Place.{Gives}
+use Rattle.format.specs.Prog.{ret, ok}
 use Rattle.format.specs.Fields.{text_bytes}
 use Rattle.format.specs.Yields.{Inside, OfFile}
 use Rattle.format.proofs.Run.{part_take, read_goes, read_ends, run_ret}
-use Rattle.format.proofs.Rules.{starting, still, returned_at, handing_none}
+use Rattle.format.proofs.Rules.{read, read_stop, ended}
 use Rattle.format.proofs.Fits.{slice-next, slice_split}
 
 -- ---- from the start
@@ -198,22 +196,22 @@ module _ (s : List ℕ) (at n end start stop : ℕ) (f : at + n ≤ length s) (h
       (text_is (range_of start (stop - start)) (range_of start (stop - start)) (slice start stop s) (text_in s (range_of start (stop - start))).bytes refl
       (sym (range_bytes s start (stop - start) ∙ rw j)))
 
-  pub words_goes : {from : Place} {r : Range} → from ≡ At at → r ≡ range_of start (stop - start) → Gives (text_bytes n) no_text s from (text_in s r) (At (at + n))
+  pub words_goes : {from : Place} {r : Range} → from ≡ Ok at → r ≡ range_of start (stop - start) → ReadsAs (text_in s) (text_bytes n) s from (Ok (r, at + n))
   unfolding text_bytes
   words_goes e g =
-      rw g (returned_at (starting e (record { reaches = read_goes s at (text n) (λ t. ret t) f refl ∙ run_ret s (at + n) (text_of at (take n (drop at s))) ∙ rw text_between })))
+      rw g (read (rw e (record { comes = read_goes s at (text n) (λ t. ret t) f refl ∙ run_ret s (at + n) (text_of at (take n (drop at s))) ∙ rw text_between })))
 
 -- an empty range is no text
 pub none_in : (s : List ℕ) → text_in s (record { start = 0; end = 0 }) ≡ no_text
 unfolding no_text
 none_in s = text_is _ _ _ _ refl (slice_empty 0 s)
 
-pub words_ends : {s : List ℕ} {from : Place} {at : ℕ} → from ≡ At at → (n : ℕ) → length s < at + n → Gives (text_bytes n) no_text s from (text_in s (record { start = 0; end = 0 })) (Stopped Ends)
-unfolding text_bytes
-words_ends {s} {from} {at} e n h = handing_none (none_in s) (starting e (record { reaches = read_ends s at (text n) (λ t. ret t) h }))
+pub no_words : {s : List ℕ} {n : ℕ} → Comes (ret no_text) s (Ok n) (ok (text_in s (record { start = 0; end = 0 })) n)
+no_words {s} = rw (none_in s) ended
 
-pub text_still : {p : Prog TextRead} {s : List ℕ} {at : Place} {x : Stop} → at ≡ Stopped x → Gives p no_text s at (text_in s (record { start = 0; end = 0 })) at
-text_still {s = s} e = handing_none (none_in s) (still e)
+pub words_ends : {s : List ℕ} {from : Place} {at : ℕ} → from ≡ Ok at → (n : ℕ) → length s < at + n → ReadsAs (text_in s) (text_bytes n) s from (Err Ends)
+unfolding text_bytes
+words_ends {s} {from} {at} e n h = read_stop (rw e (record { comes = read_ends s at (text n) (λ t. ret t) h }))
 
 -- ---- a text is one of its file
 lead_within : (l : List ℕ) → lead_len l ≤ length l

@@ -5,17 +5,17 @@
 pub const LIMIT: usize = 16777216;
 
 // A part of the input, from start up to and not including end.
-#[derive(Clone, Copy)]
+#[derive(Clone, Copy, Default, PartialEq, Eq)]
 pub struct Range {
     pub start: usize,
     pub end: usize,
 }
 
-// Where a text is not given.
+// Where a text is not given. No Option: 0 and 0 is what the tables and C have then (docs/TABLES.md).
 pub const NO_RANGE: Range = Range { start: 0, end: 0 };
 
 // The counts that have a limit.
-#[derive(Clone, Copy)]
+#[derive(Clone, Copy, PartialEq, Eq)]
 pub enum Counted {
     NoticeLines,
     Bars,
@@ -26,7 +26,7 @@ pub enum Counted {
 }
 
 // Why reading stopped.
-#[derive(Clone, Copy)]
+#[derive(Clone, Copy, PartialEq, Eq)]
 pub enum Stop {
     // the bytes end
     Ends,
@@ -42,8 +42,7 @@ pub enum Stop {
 }
 
 // Where reading goes on, or why it does not.
-#[derive(Clone, Copy)]
-pub enum Place {
-    At(usize),
-    Stopped(Stop),
-}
+pub type Place = Result<usize, Stop>;
+
+// What was read and where reading goes on, or why reading stopped.
+pub type Reading<T> = Result<(T, usize), Stop>;

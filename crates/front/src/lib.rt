@@ -1,16 +1,16 @@
 // What stands before the beats: the song, the headers and the tracks.
 #![tactic(auto)]
 
-ghost use Rattle.std.specs.Prelude.{◌≤◌};
-ghost use Rattle.format.specs.Place.{Reaches};
+ghost use Rattle.std.specs.Prelude.{◌≤◌, IfOk};
+ghost use Rattle.format.specs.Place.{Reaches, ReadsAs};
 ghost use Rattle.format.specs.Prog.{turns};
 ghost use Rattle.score.specs.File as file;
 ghost use Rattle.words.specs.Heads.{staves_of};
 ghost use Rattle.front.specs.Front.{song_of, timed_of, header_step, track_step};
 
-use format::Place;
+use format::{Place, Reading};
 use header::Counts;
-use model::{Lyrics, Tempo, Time};
+use model::{Lyrics, Time};
 use score::Before;
 use song::info::Info;
 
@@ -21,56 +21,41 @@ pub struct SongRead {
     pub info: Info,
     pub swing: bool,
     pub lyrics: Lyrics,
-    pub tempo: Tempo,
+    pub tempo: Option<u16>,
     pub directions: [u16; 19],
     pub counts: Counts,
-    pub next: Place,
 }
 
-pub fn song_at(s: &[u8], from: Place, programs: &mut [[u8; 16]; 4]) -> SongRead
-    ensures most { result.counts.tracks ≤ 100 }
-    ensures reads { Reaches file.opening s.now from (song_of result programs.new) result.next }
+pub fn song_at(s: &[u8], from: Place, programs: &mut [[u8; 16]; 4]) -> Reading<SongRead>
+    ensures most { IfOk result (λ r. r.0.counts.tracks ≤ 100) }
+    ensures reads { ReadsAs (λ r. song_of r programs.new) file.opening s.now from result }
 {
-    let version = song::version::version_at(s, from);
-    let v = version.value;
-    let at = version.next;
-    let texts = song::info::info_at(s, at, v);
-    let at = texts.next;
-    let feel = song::info::triplet_feel_at(s, at, v);
-    let at = feel.next;
-    let sung = song::info::lyrics_at(s, at, v);
-    let at = sung.next;
-    let page = song::setup::setup_at(s, at, v);
-    let at = page.next;
-    let at = song::setup::channel_table_at(s, at, programs);
-    let signs = song::setup::directions_at(s, at, v);
-    let at = signs.next;
-    let sizes = header::counts_at(s, at);
-    let next = sizes.next;
-    let info = texts.info;
-    let lyrics = sung.lyrics;
-    let tempo = page.tempo;
-    let directions = signs.bars;
-    let counts = sizes.counts;
-    SongRead {
-        version: v,
+    let (version, at) = song::version::version_at(s, from)?;
+    let (info, at) = song::info::info_at(s, Ok(at), version)?;
+    let (swing, at) = song::info::triplet_feel_at(s, Ok(at), version)?;
+    let (lyrics, at) = song::info::lyrics_at(s, Ok(at), version)?;
+    let (tempo, at) = song::setup::setup_at(s, Ok(at), version)?;
+    let at = song::setup::channel_table_at(s, Ok(at), programs)?;
+    let (directions, at) = song::setup::directions_at(s, Ok(at), version)?;
+    let (counts, at) = header::counts_at(s, Ok(at))?;
+    let song = SongRead {
+        version,
         info,
-        swing: feel.lost,
+        swing,
         lyrics,
         tempo,
         directions,
         counts,
-        next,
-    }
+    };
+    Ok((song, at))
 }
 
-// After some headers: the time that the next inherits, what it is compared with, the losses, and where reading goes on.
+// After some headers: the time that the next inherits, what it is compared with, and the losses.
 #[derive(Clone, Copy)]
-pub struct Headings {
+pub struct Heads {
     pub time: Time,
     pub before: Before,
     pub losses: [u32; 17],
-    pub next: Place,
 }
 
 fn one_header(
@@ -79,35 +64,29 @@ fn one_header(
     v: u32,
     numbers: [u16; 19],
     bar: u32,
-    time: Time,
-    before: Before,
-    losses: [u32; 17],
+    heads: &mut Heads,
     bars: &mut [u32],
-) -> Headings
-    ensures { Reaches (header_step v numbers bar (timed_of time bars.old before losses)) s.now from
-        (timed_of result.time bars.new result.before result.losses) result.next }
+) -> Place
+    ensures { Reaches (header_step v numbers bar (timed_of heads.old.time bars.old heads.old.before heads.old.losses)) s.now from
+        (timed_of heads.new.time bars.new heads.new.before heads.new.losses) result }
 {
-    let read = header::header_at(s, from, v, time);
-    let next = read.next;
-    let Place::At(_) = next else {
-        return Headings {
-            time,
-            before,
-            losses,
-            next,
-        };
-    };
-    let header = read.header;
-    let headed = into_bars::add_header(numbers, bar, time, header, before, losses, bars);
-    let time = header.time;
-    let before = headed.before;
+    let (header, next) = header::header_at(s, from, v, heads.time)?;
+    let headed = into_bars::add_header(
+        numbers,
+        bar,
+        heads.time,
+        header,
+        heads.before,
+        heads.losses,
+        bars,
+    );
     let losses = headed.losses;
-    Headings {
-        time,
-        before,
+    *heads = Heads {
+        time: header.time,
+        before: headed.before,
         losses,
-        next,
-    }
+    };
+    Ok(next)
 }
 
 // The headers of `n` bars.
@@ -117,48 +96,20 @@ pub fn headers(
     v: u32,
     numbers: [u16; 19],
     n: u32,
-    time: Time,
-    before: Before,
-    losses: [u32; 17],
+    heads: &mut Heads,
     bars: &mut [u32],
-) -> Headings
-    ensures { Reaches (turns n 0 (header_step v numbers) (timed_of time bars.old before losses)) s.now
-        from (timed_of result.time bars.new result.before result.losses) result.next }
+) -> Place
+    ensures { Reaches (turns n 0 (header_step v numbers) (timed_of heads.old.time bars.old heads.old.before heads.old.losses)) s.now
+        from (timed_of heads.new.time bars.new heads.new.before heads.new.losses) result }
 {
-    let mut time = time;
-    let mut before = before;
-    let mut losses = losses;
     let mut at = from;
-    let mut i = 0;
-    while i < n {
-        let read = one_header(s, at, v, numbers, i, time, before, losses, bars);
-        time = read.time;
-        before = read.before;
-        losses = read.losses;
-        at = read.next;
-        let Place::At(_) = at else {
-            return Headings {
-                time,
-                before,
-                losses,
-                next: at,
-            };
+    for bar in 0..n {
+        at = one_header(s, at, v, numbers, bar, heads, bars);
+        let Ok(_) = at else {
+            return at;
         };
-        i += 1;
     }
-    Headings {
-        time,
-        before,
-        losses,
-        next: at,
-    }
-}
-
-// After some tracks: the losses, and where reading goes on.
-#[derive(Clone, Copy)]
-pub struct Tracked {
-    pub losses: [u32; 17],
-    pub next: Place,
+    at
 }
 
 fn one_track(
@@ -167,21 +118,16 @@ fn one_track(
     v: u32,
     programs: [[u8; 16]; 4],
     number: u32,
-    losses: [u32; 17],
+    losses: &mut [u32; 17],
     tracks: &mut [u32],
     parts: &mut [u32],
-) -> Tracked
-    ensures { Reaches (track_step v programs number (staves_of tracks.old parts.old losses))
-        s.now from (staves_of tracks.new parts.new result.losses) result.next }
+) -> Place
+    ensures { Reaches (track_step v programs number (staves_of tracks.old parts.old losses.old))
+        s.now from (staves_of tracks.new parts.new losses.new) result }
 {
-    let read = track::track_at(s, from, v, programs);
-    let next = read.next;
-    let Place::At(_) = next else {
-        return Tracked { losses, next };
-    };
-    let track = read.track;
-    let losses = into_tracks::add_track(number, track, losses, tracks, parts);
-    Tracked { losses, next }
+    let (track, next) = track::track_at(s, from, v, programs)?;
+    *losses = into_tracks::add_track(number, track, *losses, tracks, parts);
+    Ok(next)
 }
 
 // `n` tracks.
@@ -191,24 +137,19 @@ pub fn all_tracks(
     v: u32,
     programs: [[u8; 16]; 4],
     n: u32,
-    losses: [u32; 17],
+    losses: &mut [u32; 17],
     tracks: &mut [u32],
     parts: &mut [u32],
-) -> Tracked
-    ensures { Reaches (turns n 0 (track_step v programs) (staves_of tracks.old parts.old losses))
-        s.now from (staves_of tracks.new parts.new result.losses) result.next }
+) -> Place
+    ensures { Reaches (turns n 0 (track_step v programs) (staves_of tracks.old parts.old losses.old))
+        s.now from (staves_of tracks.new parts.new losses.new) result }
 {
-    let mut losses = losses;
     let mut at = from;
-    let mut i = 0;
-    while i < n {
-        let read = one_track(s, at, v, programs, i, losses, tracks, parts);
-        losses = read.losses;
-        at = read.next;
-        let Place::At(_) = at else {
-            return Tracked { losses, next: at };
+    for number in 0..n {
+        at = one_track(s, at, v, programs, number, losses, tracks, parts);
+        let Ok(_) = at else {
+            return at;
         };
-        i += 1;
     }
-    Tracked { losses, next: at }
+    at
 }

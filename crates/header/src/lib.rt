@@ -1,40 +1,22 @@
 // Counts of bars and tracks, and bar headers.
 #![tactic(auto)]
 
-ghost use Rattle.std.specs.Prelude.{◌≡◌};
+ghost use Rattle.std.specs.Prelude.{◌≡◌, Ok};
 ghost use Rattle.format.specs.Text.{text_in};
 ghost use Rattle.format.specs.Prog.{ret, when_bits, has};
-ghost use Rattle.format.specs.Place.{Gives, Reaches};
+ghost use Rattle.format.specs.Place.{Reaches, Reads, ReadsAs};
 ghost use Rattle.format.specs.Fields as field;
 ghost use Rattle.header.specs.Header as head;
 
-use bin::string::StringRead;
-use bin::{Byte, skip_at};
-use format::{Counted, NO_RANGE, Place, Range, Stop};
+use bin::skip_at;
+use format::{Counted, NO_RANGE, Place, Range, Reading, Stop};
 use model::{Key, Mode, Time};
 
+// What the file says of itself, and no two of the counts that are kept: those have the same fields by chance.
 #[derive(Clone, Copy)]
 pub struct Counts {
     pub bars: u32,
     pub tracks: u32,
-}
-
-#[derive(Clone, Copy)]
-pub struct CountsRead {
-    pub counts: Counts,
-    pub next: Place,
-}
-
-#[derive(Clone, Copy)]
-struct TimeRead {
-    time: Time,
-    next: Place,
-}
-
-#[derive(Clone, Copy)]
-struct KeyRead {
-    key: Key,
-    next: Place,
 }
 
 // What stands between a header's time and its tail: how often its repeat is played, its ending byte before v500, its
@@ -47,23 +29,11 @@ pub struct Marks {
     pub key: Key,
 }
 
-#[derive(Clone, Copy)]
-struct MarksRead {
-    marks: Marks,
-    next: Place,
-}
-
 // What a bar header ends with from v500 on.
 #[derive(Clone, Copy)]
 pub struct Tail {
     pub mask: u8,
     pub swing: bool,
-}
-
-#[derive(Clone, Copy)]
-struct TailRead {
-    tail: Tail,
-    next: Place,
 }
 
 // A bar header as read; the ending and its passes are 0 where there are none.
@@ -81,51 +51,24 @@ pub struct Header {
     pub swing_lost: bool,
 }
 
-#[derive(Clone, Copy)]
-pub struct HeaderRead {
-    pub header: Header,
-    pub next: Place,
-}
-
-const NO_COUNTS: Counts = Counts { bars: 0, tracks: 0 };
-
 const COMMON_TIME: Time = Time {
     numerator: 4,
     denominator: 4,
 };
 
 // The counts of bars and tracks: both are read before "empty" is judged.
-pub fn counts_at(s: &[u8], from: Place) -> CountsRead
-    ensures { Gives head.counts head.no_counts s.now from result.counts result.next }
+pub fn counts_at(s: &[u8], from: Place) -> Reading<Counts>
+    ensures { Reads head.counts s.now from result }
 {
-    let bars = bin::count_at(s, from, Counted::Bars);
-    let at = bars.next;
-    let tracks = bin::count_at(s, at, Counted::Tracks);
-    let next = tracks.next;
-    let Place::At(_) = next else {
-        return CountsRead {
-            counts: NO_COUNTS,
-            next,
-        };
-    };
-    let bars = bars.value;
-    let tracks = tracks.value;
+    let (bars, at) = bin::count_at(s, from, Counted::Bars)?;
+    let (tracks, at) = bin::count_at(s, Ok(at), Counted::Tracks)?;
     if bars == 0 {
-        return CountsRead {
-            counts: NO_COUNTS,
-            next: Place::Stopped(Stop::Empty),
-        };
+        return Err(Stop::Empty);
     }
     if tracks == 0 {
-        return CountsRead {
-            counts: NO_COUNTS,
-            next: Place::Stopped(Stop::Empty),
-        };
+        return Err(Stop::Empty);
     }
-    CountsRead {
-        counts: Counts { bars, tracks },
-        next,
-    }
+    Ok((Counts { bars, tracks }, at))
 }
 
 // Whether the flags have a bit of the mask.
@@ -136,16 +79,13 @@ pub fn has(flags: u8, mask: u8) -> bool
 }
 
 // A byte that stands only where the flags have a bit of the mask, and else another.
-fn byte_where(s: &[u8], from: Place, flags: u8, mask: u8, other: u8) -> Byte
-    ensures { Reaches (when_bits flags mask field.u8 (ret other)) s.now from result.value result.next }
+fn byte_where(s: &[u8], at: usize, flags: u8, mask: u8, other: u8) -> Reading<u8>
+    ensures { Reads (when_bits flags mask field.u8 (ret other)) s.now (Ok at) result }
 {
     if flags & mask == 0 {
-        return Byte {
-            value: other,
-            next: from,
-        };
+        return Ok((other, at));
     }
-    bin::u8_at(s, from)
+    bin::u8_at(s, Ok(at))
 }
 
 fn is_power_of_two(n: u8) -> bool
@@ -169,46 +109,33 @@ fn time_of(numerator: u8, denominator: u8) -> Time
     COMMON_TIME
 }
 
-fn time_at(s: &[u8], from: Place, flags: u8, before: Time) -> TimeRead
-    ensures { Reaches (head.time flags before) s.now from result.time result.next }
+fn time_at(s: &[u8], at: usize, flags: u8, before: Time) -> Reading<Time>
+    ensures { Reads (head.time flags before) s.now (Ok at) result }
 {
-    let numerator = byte_where(s, from, flags, 0x01, before.numerator);
-    let at = numerator.next;
-    let denominator = byte_where(s, at, flags, 0x02, before.denominator);
-    let next = denominator.next;
-    TimeRead {
-        time: time_of(numerator.value, denominator.value),
-        next,
-    }
+    let (numerator, at) = byte_where(s, at, flags, 0x01, before.numerator)?;
+    let (denominator, at) = byte_where(s, at, flags, 0x02, before.denominator)?;
+    Ok((time_of(numerator, denominator), at))
 }
 
 // Before v500 an ending byte may stand here.
-fn ending_at(s: &[u8], from: Place, v: u32, flags: u8) -> Byte
-    ensures { Reaches (head.ending_byte v flags) s.now from result.value result.next }
+fn ending_at(s: &[u8], at: usize, v: u32, flags: u8) -> Reading<u8>
+    ensures { Reads (head.ending_byte v flags) s.now (Ok at) result }
 {
     if 500 <= v {
-        return Byte {
-            value: 0,
-            next: from,
-        };
+        return Ok((0, at));
     }
-    byte_where(s, from, flags, 0x10, 0)
+    byte_where(s, at, flags, 0x10, 0)
 }
 
-fn marker_at(s: &[u8], from: Place, flags: u8) -> StringRead
-    ensures { Reaches (head.marker flags) s.now from (text_in s.now result.range) result.next }
+fn marker_at(s: &[u8], at: usize, flags: u8) -> Reading<Range>
+    ensures { ReadsAs (text_in s.now) (head.marker flags) s.now (Ok at) result }
 {
     if flags & 0x20 == 0 {
-        return StringRead {
-            range: NO_RANGE,
-            next: from,
-        };
+        return Ok((NO_RANGE, at));
     }
-    let name = bin::string::int_byte_string(s, from);
-    let at = name.next;
-    let next = skip_at(s, at, 4);
-    let range = name.range;
-    StringRead { range, next }
+    let (name, at) = bin::string::int_byte_string(s, Ok(at))?;
+    let at = skip_at(s, Ok(at), 4)?;
+    Ok((name, at))
 }
 
 // A two's complement byte held to -7..7.
@@ -227,6 +154,7 @@ fn fifths_of(b: u8) -> i8
     bin::signed::to_i8(b)
 }
 
+// No `From` of a byte: the word that the tables have for a mode is another number.
 fn mode_of(b: u8) -> Mode
     ensures { result ≡ head.mode_of b }
 {
@@ -236,83 +164,61 @@ fn mode_of(b: u8) -> Mode
     Mode::Minor
 }
 
-fn key_at(s: &[u8], from: Place, flags: u8) -> KeyRead
-    ensures { Reaches (head.key flags) s.now from result.key result.next }
+fn key_at(s: &[u8], at: usize, flags: u8) -> Reading<Key>
+    ensures { Reads (head.key flags) s.now (Ok at) result }
 {
     if flags & 0x40 == 0 {
-        return KeyRead {
-            key: Key::NoKey,
-            next: from,
-        };
+        return Ok((Key::NoKey, at));
     }
-    let fifths = bin::u8_at(s, from);
-    let at = fifths.next;
-    let mode = bin::u8_at(s, at);
-    let next = mode.next;
-    KeyRead {
-        key: Key::Fifths(fifths_of(fifths.value), mode_of(mode.value)),
-        next,
-    }
+    let (fifths, at) = bin::u8_at(s, Ok(at))?;
+    let (mode, at) = bin::u8_at(s, Ok(at))?;
+    Ok((Key::Fifths(fifths_of(fifths), mode_of(mode)), at))
 }
 
-fn marks_at(s: &[u8], from: Place, v: u32, flags: u8) -> MarksRead
-    ensures { Reaches (head.header_marks v flags) s.now from result.marks result.next }
+fn marks_at(s: &[u8], at: usize, v: u32, flags: u8) -> Reading<Marks>
+    ensures { Reads (head.header_marks v flags) s.now (Ok at) result }
 {
-    let times = byte_where(s, from, flags, 0x08, 0);
-    let at = times.next;
-    let ending = ending_at(s, at, v, flags);
-    let at = ending.next;
-    let marker = marker_at(s, at, flags);
-    let at = marker.next;
-    let key = key_at(s, at, flags);
-    let next = key.next;
-    let marker = marker.range;
-    let key = key.key;
-    MarksRead {
-        marks: Marks {
-            times: times.value,
-            ending: ending.value,
-            marker,
-            key,
-        },
-        next,
-    }
+    let (times, at) = byte_where(s, at, flags, 0x08, 0)?;
+    let (ending, at) = ending_at(s, at, v, flags)?;
+    let (marker, at) = marker_at(s, at, flags)?;
+    let (key, at) = key_at(s, at, flags)?;
+    let marks = Marks {
+        times,
+        ending,
+        marker,
+        key,
+    };
+    Ok((marks, at))
 }
 
 // Beam grouping stands where a time was read.
-fn beams_at(s: &[u8], from: Place, flags: u8) -> Place
-    ensures { Reaches (head.beams flags) s.now from tt result }
+fn beams_at(s: &[u8], at: usize, flags: u8) -> Place
+    ensures { Reaches (head.beams flags) s.now (Ok at) tt result }
 {
     if flags & 0x03 == 0 {
-        return from;
+        return Ok(at);
     }
-    skip_at(s, from, 4)
+    skip_at(s, Ok(at), 4)
 }
 
-fn tail_at(s: &[u8], from: Place, v: u32, flags: u8) -> TailRead
-    ensures { Reaches (head.header_tail v flags) s.now from result.tail result.next }
+fn tail_at(s: &[u8], at: usize, v: u32, flags: u8) -> Reading<Tail>
+    ensures { Reads (head.header_tail v flags) s.now (Ok at) result }
 {
     if v < 500 {
-        return TailRead {
-            tail: Tail {
-                mask: 0,
-                swing: false,
-            },
-            next: from,
+        let tail = Tail {
+            mask: 0,
+            swing: false,
         };
+        return Ok((tail, at));
     }
-    let mask = bin::u8_at(s, beams_at(s, from, flags));
-    let at = mask.next;
-    let swing = bin::u8_at(s, at);
-    let at = swing.next;
-    let next = skip_at(s, at, 1);
-    TailRead {
-        tail: Tail {
-            mask: mask.value,
-            swing: swing.value != 0,
-        },
-        next,
-    }
+    let (mask, at) = bin::u8_at(s, beams_at(s, at, flags))?;
+    let (swing, at) = bin::u8_at(s, Ok(at))?;
+    let at = skip_at(s, Ok(at), 1)?;
+    let tail = Tail {
+        mask,
+        swing: swing != 0,
+    };
+    Ok((tail, at))
 }
 
 // The number is the mask's trailing zeros plus one.
@@ -364,44 +270,13 @@ fn header_of(v: u32, flags: u8, time: Time, marks: Marks, tail: Tail) -> Header
     }
 }
 
-fn no_header() -> Header
-    ensures { result ≡ head.no_header }
-{
-    Header {
-        time: COMMON_TIME,
-        key: Key::NoKey,
-        repeat_start: false,
-        repeat_end: false,
-        double_bar: false,
-        ending: 0,
-        passes: 0,
-        marker: NO_RANGE,
-        repeat_lost: false,
-        swing_lost: false,
-    }
-}
-
 // A bar header, after one whose time it inherits.
-pub fn header_at(s: &[u8], from: Place, v: u32, before: Time) -> HeaderRead
-    ensures { Gives (head.header v before) head.no_header s.now from result.header result.next }
+pub fn header_at(s: &[u8], from: Place, v: u32, before: Time) -> Reading<Header>
+    ensures { Reads (head.header v before) s.now from result }
 {
-    let read = bin::u8_at(s, from);
-    let flags = read.value;
-    let at = read.next;
-    let time = time_at(s, at, flags, before);
-    let at = time.next;
-    let marks = marks_at(s, at, v, flags);
-    let at = marks.next;
-    let tail = tail_at(s, at, v, flags);
-    let next = tail.next;
-    let Place::At(_) = next else {
-        return HeaderRead {
-            header: no_header(),
-            next,
-        };
-    };
-    HeaderRead {
-        header: header_of(v, flags, time.time, marks.marks, tail.tail),
-        next,
-    }
+    let (flags, at) = bin::u8_at(s, from)?;
+    let (time, at) = time_at(s, at, flags, before)?;
+    let (marks, at) = marks_at(s, at, v, flags)?;
+    let (tail, at) = tail_at(s, at, v, flags)?;
+    Ok((header_of(v, flags, time, marks, tail), at))
 }

@@ -13,11 +13,10 @@ ghost use Rattle.words.specs.Words.{words, go_on_words, key_words, tempo_words};
 ghost use Rattle.words.specs.Heads.{heads_of, directing};
 ghost use Rattle.words.specs.Reports.{reports};
 
-use entries::bars::{BAR_WORDS, PLACE, TEMPO, set_place, set_tempo, store_bar};
+use entries::Entry;
+use entries::bars::{BAR_WORDS, PLACE, TEMPO, set_place, set_tempo};
 use header::Header;
-use model::{
-    Bar, Changes, Direction, Ending, EndingPlace, Key, Loss, Passes, Repeats, Tempo, Time, kinds,
-};
+use model::{Bar, Changes, Direction, EndingPlace, Key, Loss, Repeats, Time, kinds};
 use score::Before;
 use tables::load_field;
 use words::report_if;
@@ -31,6 +30,20 @@ const FIFTHS: usize = 3;
 
 // ---- directions
 
+// The signs that are kept, by their places among the numbers.
+const KEPT_SIGNS: [(usize, Direction); 10] = [
+    (0, Direction::Coda),
+    (2, Direction::Segno),
+    (4, Direction::Fine),
+    (5, Direction::DaCapo),
+    (6, Direction::DaCapoAlCoda),
+    (8, Direction::DaCapoAlFine),
+    (9, Direction::DalSegno),
+    (10, Direction::DalSegnoAlCoda),
+    (12, Direction::DalSegnoAlFine),
+    (17, Direction::ToCoda),
+];
+
 // Whether sign `n` stands at a bar: signs number bars from 1.
 fn stands_at(numbers: [u16; 19], bar: u32, n: usize) -> bool
     requires { n < 19 }
@@ -39,84 +52,48 @@ fn stands_at(numbers: [u16; 19], bar: u32, n: usize) -> bool
     (numbers[n] as u64) == (bar as u64) + 1
 }
 
-fn sign_or(
-    numbers: [u16; 19],
-    bar: u32,
-    n: usize,
-    direction: Direction,
-    other: Direction,
-) -> Direction
-    requires { n < 19 }
-    ensures { result ≡ pick (stands_at numbers bar n) direction other }
-{
-    if stands_at(numbers, bar, n) {
-        return direction;
-    }
-    other
-}
-
-// The first sign of a bar is kept: from the last back.
+// The first sign of a bar is kept.
+#[tactic(auto, unfolding(score::specs::Bars::direction_at))]
 fn direction_at(numbers: [u16; 19], bar: u32) -> Direction
     ensures { result ≡ direction_at numbers bar }
 {
-    let sign = Direction::NoDirection;
-    let sign = sign_or(numbers, bar, 17, Direction::ToCoda, sign);
-    let sign = sign_or(numbers, bar, 12, Direction::DalSegnoAlFine, sign);
-    let sign = sign_or(numbers, bar, 10, Direction::DalSegnoAlCoda, sign);
-    let sign = sign_or(numbers, bar, 9, Direction::DalSegno, sign);
-    let sign = sign_or(numbers, bar, 8, Direction::DaCapoAlFine, sign);
-    let sign = sign_or(numbers, bar, 6, Direction::DaCapoAlCoda, sign);
-    let sign = sign_or(numbers, bar, 5, Direction::DaCapo, sign);
-    let sign = sign_or(numbers, bar, 4, Direction::Fine, sign);
-    let sign = sign_or(numbers, bar, 2, Direction::Segno, sign);
-    sign_or(numbers, bar, 0, Direction::Coda, sign)
-}
-
-fn one_more_if(numbers: [u16; 19], bar: u32, n: usize, signs: u32) -> u32
-    requires { (n < 19) × (signs < 10) }
-    ensures { (result ≡ one_if (stands_at numbers bar n) + signs) × (result ≤ signs + 1) }
-{
-    if stands_at(numbers, bar, n) {
-        return 1 + signs;
+    for (n, direction) in KEPT_SIGNS {
+        if stands_at(numbers, bar, n) {
+            return direction;
+        }
     }
-    signs
+    Direction::NoDirection
 }
 
 // Whether more than one sign that is kept stands at a bar: that is a loss.
 fn several(numbers: [u16; 19], bar: u32) -> bool
     ensures { result ≡ several numbers bar }
 {
-    let signs = one_more_if(numbers, bar, 17, 0);
-    let signs = one_more_if(numbers, bar, 12, signs);
-    let signs = one_more_if(numbers, bar, 10, signs);
-    let signs = one_more_if(numbers, bar, 9, signs);
-    let signs = one_more_if(numbers, bar, 8, signs);
-    let signs = one_more_if(numbers, bar, 6, signs);
-    let signs = one_more_if(numbers, bar, 5, signs);
-    let signs = one_more_if(numbers, bar, 4, signs);
-    let signs = one_more_if(numbers, bar, 2, signs);
-    let signs = one_more_if(numbers, bar, 0, signs);
+    let mut signs: u32 = 0;
+    for (n, _) in KEPT_SIGNS {
+        if stands_at(numbers, bar, n) {
+            signs += 1;
+        }
+    }
     1 < signs
 }
 
-// ---- time and key
+// ---- time and key: by a match where a rule takes a key apart
 
+#[tactic(auto, unfolding(score::specs::Bars::time_changed))]
 fn time_changed(bar: u32, before: Time, time: Time) -> bool
     ensures { result ≡ time_changed bar before time }
 {
-    let same = (before.numerator == time.numerator) & (before.denominator == time.denominator);
-    (0 < bar) & !same
+    (0 < bar) & (before != time)
 }
 
 fn is_key(key: Key) -> bool
     ensures { result ≡ is_key key }
 {
-    match key {
-        Key::NoKey => false,
-        Key::Fifths(_, _) => true,
-    }
+    key != Key::NoKey
 }
 
+// Not by `==`: tried, and the proof didn't close, since that the fifths fit their byte is known only where a key is taken apart.
 fn same_key(a: Key, b: Key) -> bool
     ensures { result ≡ same_key a b }
 {
@@ -124,6 +101,7 @@ fn same_key(a: Key, b: Key) -> bool
 }
 
 // Against the last key read, and not the bar before (docs/RULES.md 10).
+#[tactic(auto, unfolding(score::specs::Bars::key_changed))]
 fn key_changed(bar: u32, before: Key, key: Key) -> bool
     ensures { result ≡ key_changed bar before key }
 {
@@ -176,48 +154,43 @@ fn followed(place: EndingPlace) -> EndingPlace
     ensures { result ≡ followed place }
 {
     match place {
-        EndingPlace::NoPlace => EndingPlace::NoPlace,
-        EndingPlace::Begin => EndingPlace::Begin,
-        EndingPlace::Mid => EndingPlace::Mid,
         EndingPlace::End => EndingPlace::Mid,
         EndingPlace::BeginEnd => EndingPlace::Begin,
+        EndingPlace::NoPlace | EndingPlace::Begin | EndingPlace::Mid => place,
     }
 }
 
-fn ending_of(n: u8) -> Ending
+fn ending_of(n: u8) -> Option<u8>
     ensures { result ≡ ending_entry n }
 {
     if n == 0 {
-        return Ending::NoEnding;
+        return None;
     }
-    Ending::Nth(n)
+    Some(n)
 }
 
-fn passes_of(mask: u8) -> Passes
+fn passes_of(mask: u8) -> Option<u8>
     ensures { result ≡ passes_entry mask }
 {
     if mask == 0 {
-        return Passes::NoPasses;
+        return None;
     }
-    Passes::Mask(mask)
+    Some(mask)
 }
 
 // ---- a bar's entry
 
 // The entry of a bar, before the bars after it and its beats are known.
+#[tactic(auto, unfolding(score::specs::Bars::bar_of))]
 pub fn bar_of(numbers: [u16; 19], bar: u32, time: Time, header: Header, before: Before) -> Bar
     ensures { result ≡ bar_of numbers bar time header before }
 {
-    let read = header.time;
-    let key = header.key;
-    let last = before.key;
-    let marker = header.marker;
     Bar {
-        time: read,
-        key,
+        time: header.time,
+        key: header.key,
         changed: Changes {
-            time: time_changed(bar, time, read),
-            key: key_changed(bar, last, key),
+            time: time_changed(bar, time, header.time),
+            key: key_changed(bar, before.key, header.key),
         },
         repeats: Repeats {
             start: header.repeat_start,
@@ -227,30 +200,32 @@ pub fn bar_of(numbers: [u16; 19], bar: u32, time: Time, header: Header, before: 
         ending: ending_of(header.ending),
         passes: passes_of(header.passes),
         place: last_place(before, header),
-        marker,
+        marker: header.marker,
         direction: direction_at(numbers, bar),
-        tempo: Tempo::NoTempo,
+        tempo: None,
     }
 }
 
 // The first tempo of a bar stays.
-pub fn set_first_tempo(bars: &mut [u32], bar: usize, tempo: Tempo)
+#[tactic(auto, unfolding(words::specs::Words::tempo_words))]
+pub fn set_first_tempo(bars: &mut [u32], bar: usize, tempo: Option<u16>)
     ensures { bars.new ≡ tempo_words bar tempo bars.old }
 {
-    if load_field(bars, bar, BAR_WORDS, TEMPO) != 0 {
-        return;
+    if load_field(bars, bar, BAR_WORDS, TEMPO) == 0 {
+        set_tempo(bars, bar, tempo);
     }
-    set_tempo(bars, bar, tempo);
 }
 
 // The ending of a bar goes on in the next.
+#[tactic(auto, unfolding(words::specs::Words::go_on_words))]
 pub fn go_on(bars: &mut [u32], bar: usize)
     ensures { bars.new ≡ go_on_words bar bars.old }
 {
-    let place = kinds::ending_place_of(load_field(bars, bar, BAR_WORDS, PLACE));
+    let place = EndingPlace::from(load_field(bars, bar, BAR_WORDS, PLACE));
     set_place(bars, bar, followed(place));
 }
 
+#[tactic(auto, unfolding(words::specs::Words::key_words))]
 pub fn key_at(bars: &[u32], bar: usize) -> Key
     ensures { result ≡ key_words bar bars.now }
 {
@@ -272,22 +247,20 @@ pub struct Headed {
 fn bar_before(bar: u32) -> usize
     ensures { result ≡ bar - 1 }
 {
-    if bar == 0 {
-        return 0;
-    }
-    (bar - 1) as usize
+    bar.saturating_sub(1) as usize
 }
 
+// By a flag: what is done is one call, and a closure would be called under the same test.
 fn go_on_if(going: bool, bars: &mut [u32], bar: usize)
     ensures { bars.new ≡ pick going (go_on_words bar bars.old) bars.old }
 {
-    if !going {
-        return;
+    if going {
+        go_on(bars, bar);
     }
-    go_on(bars, bar);
 }
 
 // `several` says whether more than one direction stands at the header's bar.
+#[tactic(auto, unfolding(score::specs::Losses::header_losses), using(words::proofs::Reports::reports_append))]
 fn header_losses(losses: [u32; 17], header: Header, several: bool) -> [u32; 17]
     ensures { result ≡ reports (header_losses header ++ report_if several UnsupportedDirection) losses }
 {
@@ -297,6 +270,7 @@ fn header_losses(losses: [u32; 17], header: Header, several: bool) -> [u32; 17]
 }
 
 // A header after one whose time is `time`: its bar's entry, and whether the ending of the bar before goes on in it.
+#[tactic(auto, unfolding(score::specs::Page::add_header, words::specs::Reports::reports))]
 pub fn add_header(
     numbers: [u16; 19],
     bar: u32,
@@ -311,13 +285,11 @@ pub fn add_header(
 {
     let entry = bar_of(numbers, bar, time, header, before);
     go_on_if(goes_on(before, header), bars, bar_before(bar));
-    store_bar(bars, bar as usize, entry);
+    entry.store(bars, bar as usize);
     let losses = header_losses(losses, header, several(numbers, bar));
-    let last = before.key;
-    let key = header.key;
     Headed {
         before: Before {
-            key: key_after(last, key),
+            key: key_after(before.key, header.key),
             ending: header.ending,
         },
         losses,

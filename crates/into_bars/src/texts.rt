@@ -2,11 +2,11 @@
 ghost use Rattle.std.specs.Prelude.{◌≡◌};
 ghost use Rattle.std.proofs.Math.Seq.{slice};
 ghost use Rattle.score.specs.Page.{keep_text, texts_after};
-ghost use Rattle.score.specs.Score.{same_bytes};
 ghost use Rattle.words.specs.Words.{words, entered_words};
 ghost use Rattle.into_bars.specs.Entered.{text_here, in_bar, same_at};
 
-use entries::texts::{TEXT_WORDS, store_text};
+use entries::Entry;
+use entries::texts::TEXT_WORDS;
 use format::Range;
 use model::Text;
 use tables::load_field;
@@ -21,29 +21,11 @@ const START: usize = 2;
 const END: usize = 3;
 
 // The part of the file that a range names, as far as the file goes.
+#[tactic(auto, using(crate::proofs::Bytes::part_far))]
 fn part(s: &[u8], start: usize, end: usize) -> &[u8]
     ensures { result.now ≡ slice start end s.now }
 {
-    if s.len() < end {
-        return bin::text(s, start, s.len());
-    }
-    bin::text(s, start, end)
-}
-
-fn same_bytes(a: &[u8], b: &[u8]) -> bool
-    ensures { result ≡ same_bytes a.now b.now }
-{
-    if a.len() != b.len() {
-        return false;
-    }
-    let mut i = 0;
-    while i < a.len() {
-        if a[i] != b[i] {
-            return false;
-        }
-        i += 1;
-    }
-    true
+    bin::text(s, start, end.min(s.len()))
 }
 
 fn in_bar(texts: &[u32], i: usize, bar: u32, track: u32) -> bool
@@ -54,26 +36,26 @@ fn in_bar(texts: &[u32], i: usize, bar: u32, track: u32) -> bool
 }
 
 // Whether text `i` has the bytes of another.
+#[tactic(auto, using(crate::proofs::Bytes::bytes_same))]
 fn same_at(s: &[u8], texts: &[u32], i: usize, text: Range) -> bool
     ensures { result ≡ same_at s.now texts.now i text }
 {
     let start = load_field(texts, i, TEXT_WORDS, START) as usize;
     let end = load_field(texts, i, TEXT_WORDS, END) as usize;
-    same_bytes(part(s, text.start, text.end), part(s, start, end))
+    part(s, text.start, text.end) == part(s, start, end)
 }
 
 // Texts stand in the order of their bars and tracks, so those of this bar and track are the last.
+#[tactic(auto, using(crate::proofs::Bytes::entered_other, crate::proofs::Bytes::entered_found, crate::proofs::Bytes::entered_on))]
 pub fn entered(s: &[u8], texts: &[u32], count: u32, bar: u32, track: u32, text: Range) -> bool
     ensures { result
         ≡ entered_words s.now count (text_here s.now bar track text) texts.now }
 {
-    let mut left = count as usize;
-    while 0 < left {
-        left -= 1;
-        if !in_bar(texts, left, bar, track) {
+    for i in (0..count as usize).rev() {
+        if !in_bar(texts, i, bar, track) {
             return false;
         }
-        if same_at(s, texts, left, text) {
+        if same_at(s, texts, i, text) {
             return true;
         }
     }
@@ -90,14 +72,11 @@ pub fn keep_text(s: &[u8], texts: &mut [u32], count: u32, bar: u32, track: u32, 
     if entered(s, texts, count, bar, track, text) {
         return count;
     }
-    store_text(
-        texts,
-        count as usize,
-        Text {
-            bar,
-            track,
-            range: text,
-        },
-    );
+    let entry = Text {
+        bar,
+        track,
+        range: text,
+    };
+    entry.store(texts, count as usize);
     words::plus(count, 1)
 }

@@ -1,4 +1,5 @@
 -- The losses of the song and of a beat, one after another.
+use Rattle.std.specs.Prelude.{None, Option, Some}
 use Prim.Native.Nat.{ℕ, zero, suc, ◌+◌, ◌%◌, ◌≤◌, ◌<◌}
 use mathlib.Core.Path.{◌≡◌, refl, sym, ◌∙◌}
 use mathlib.Core.Bool.{Bool, true, false, not, ◌||◌, true≢false}
@@ -7,16 +8,14 @@ use native.Mathlib.Omega.{arith}
 use native.Mathlib.Nat.{zero-add}
 use native.Mathlib.Numerals.{add-one}
 use borrow.Author.Tests.{ne_eqb}
-use lib.Dec.{eqb}
-use lib.ListN.{length, get_or, set, drop}
+use lib.Dec.{eqb, ltb}
+use lib.ListN.{length, get_or, set, drop, drop_of_length-le}
 use lib.Seq.{drop-cons, set-get_or}
 use Rattle.format.specs.Text.{pick}
 use Rattle.format.specs.Prog.{has}
 use Rattle.model.specs.declared.Loss.{Loss}
 use Rattle.model.specs.declared.Loss.TheVariants as L
 use Rattle.model.specs.Answers.{loss_number}
-use Rattle.note.specs.declared.marks.GraceNote.{GraceNote}
-use Rattle.note.specs.declared.marks.GraceNote.TheVariants.{NoGrace, Before}
 use Rattle.note.specs.Marks.{no_marks}
 use Rattle.note.specs.Note.{NoteIs, read_of, no_note}
 use Rattle.note.specs.Notes.{string_bit}
@@ -24,7 +23,7 @@ use Rattle.note.specs.Words.{start, note_in, read_in, hands_in, fingered_in, Wit
 use Rattle.note.proofs.Strings.{low_bits}
 use Rattle.beat.specs.Beat.{BeatIs}
 use Rattle.score.specs.Members.{Keyed, Graced, graced_after, graces}
-use Rattle.score.specs.Bars.{one_if}
+use Rattle.score.specs.Bars.{one_if, unsupported}
 use Rattle.score.specs.Losses.{report_if, reported, note_losses, notes_losses, reading_losses, built_losses, member_losses, grace_losses, is_rest, building_losses}
 use Rattle.score.specs.Page.{report, beat_losses}
 use Rattle.draft.specs.Chord.{string_of, keyed_in, chord_in}
@@ -33,6 +32,7 @@ use Rattle.words.specs.Reports.{reports}
 use Rattle.words.proofs.Reports.{reports_in, reports_none, reports_append}
 use Rattle.into_losses.specs.Notes.{Lossless}
 use Rattle.into_losses.specs.Graces.{on_beat}
+use Rattle.note.specs.declared.marks.Grace.{Grace}
 
 pub numbered : (l : Loss) → loss_number l < 17
 numbered L.DrumKit = omega arith
@@ -65,6 +65,26 @@ reported_if false l counts = set-get_or counts (loss_number l) 0
 pub sign_next : (lost : Bool) (n : ℕ) (l : Loss) → reported (one_if lost + n) l ≡ report_if lost l ++ reported n l
 sign_next true n l = let e : 1 + n ≡ suc n = omega arith in rw e
 sign_next false n l = rw zero-add
+
+-- signs with a number each
+abbrev pub Numbered : List ℕ → Type 0
+Numbered [] = Unit {0}
+Numbered (n ∷ ns) = (n < 19) × Numbered ns
+
+module _ (signs : List ℕ) (i : ℕ) (inside : i < length signs) where
+  pub number_small : Numbered (drop i signs) → get_or signs i 0 < 19
+  number_small h = (rw (drop-cons signs i 0 inside) at h).0
+
+  pub numbers_left : Numbered (drop i signs) → Numbered (drop (i + 1) signs)
+  numbers_left h = rw (add-one i) (rw (drop-cons signs i 0 inside) at h).1
+
+  pub signs_next : (numbers counts : List ℕ) (l : Loss) → reports (reported (unsupported numbers (drop i signs)) l) counts
+      ≡ reports (reported (unsupported numbers (drop (i + 1) signs)) l) (reports (report_if (ltb 0 (get_or numbers (get_or signs i 0) 0)) l) counts)
+  signs_next numbers counts l = rw (drop-cons signs i 0 inside, add-one i, sign_next, reports_append)
+
+pub signs_end : (signs : List ℕ) (i : ℕ) (numbers counts : List ℕ) (l : Loss) → length signs ≤ i
+    → reports (reported (unsupported numbers (drop i signs)) l) counts ≡ counts
+signs_end signs i numbers counts l past = rw (drop_of_length-le signs {i = i} past) (reports_none counts)
 
 -- ---- a note with neither effects nor fingers
 
@@ -109,10 +129,10 @@ module _ (s : List ℕ) (v strings : ℕ) (w : List ℕ) where
 
 -- ---- the notes of a chord, from one on
 
-grace_next : (g : GraceNote) (x : Keyed) (gs : List Graced)
+grace_next : (g : Option Grace) (x : Keyed) (gs : List Graced)
     → grace_losses (graced_after g x gs) ≡ report_if (on_beat g) L.OnBeatGrace ++ grace_losses gs
-grace_next NoGrace x gs = refl
-grace_next (Before g) x gs = refl
+grace_next None x gs = refl
+grace_next (Some g) x gs = refl
 
 module _ (s : List ℕ) (v : ℕ) (w chord counts : List ℕ) (i : ℕ) (h : i < length chord) where
   pub members_next : reports (member_losses (chord_in s v w (drop i chord))) counts
@@ -128,6 +148,16 @@ module _ (s : List ℕ) (v : ℕ) (w chord counts : List ℕ) (i : ℕ) (h : i <
       (reports (report_if (on_beat (read_in v w (string_of (get_or chord i 0))).effects.grace) L.OnBeatGrace) counts)
   unfolding chord_in
   graces_next = rw (drop-cons chord i 0 h, add-one i, grace_next, reports_append)
+
+-- after the last note
+module _ (s : List ℕ) (v : ℕ) (w chord counts : List ℕ) (i : ℕ) (h : length chord ≤ i) where
+  pub members_end : reports (member_losses (chord_in s v w (drop i chord))) counts ≡ counts
+  unfolding chord_in
+  members_end = rw (drop_of_length-le chord {i = i} h) (reports_none counts)
+
+  pub graces_end : reports (grace_losses (graces (chord_in s v w (drop i chord)))) counts ≡ counts
+  unfolding chord_in
+  graces_end = rw (drop_of_length-le chord {i = i} h) (reports_none counts)
 
 -- a chord of no notes is a rest
 rest : (f : ℕ → Keyed) (l : List ℕ) → is_rest (map f l) ≡ eqb (length l) 0

@@ -1,8 +1,7 @@
 -- Whether a grace is a loss.
-use Rattle.std.specs.Prelude.{Bool, false}
-use Rattle.note.specs.declared.marks.GraceNote.{GraceNote}
-use Rattle.note.specs.declared.marks.GraceNote.TheVariants.{NoGrace, Before}
+use Rattle.std.specs.Prelude.{Bool, false, None, Option, Some}
+use Rattle.note.specs.declared.marks.Grace.{Grace}
 
-abbrev pub on_beat : GraceNote → Bool
-on_beat NoGrace = false
-on_beat (Before g) = g.on_beat
+abbrev pub on_beat : Option Grace → Bool
+on_beat None = false
+on_beat (Some g) = g.on_beat

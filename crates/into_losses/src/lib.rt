@@ -22,8 +22,8 @@ ghost use Rattle.into_losses.specs.Graces.{on_beat};
 use beat::places::Beat;
 use draft::chord;
 use model::{Loss, answers};
-use note::marks::GraceNote;
-use note::notes::{first_string, other_strings};
+use note::marks::Grace;
+use note::notes::Strings;
 use note::places::Notes;
 use note::{LeftHand, field};
 use words::report_if;
@@ -34,19 +34,18 @@ pub type Losses = [u32; 17];
 
 // ---- of the song
 
-// The signs that are no direction of the page: any above 0 is a loss.
+// The signs that are no direction of the page, by their places among the numbers.
+const OTHER_SIGNS: [usize; 9] = [1, 3, 7, 11, 13, 14, 15, 16, 18];
+
+// Any of them above 0 is a loss.
 fn sign_losses(losses: [u32; 17], directions: [u16; 19]) -> [u32; 17]
     ensures { result ≡ reports (rule.reported (unsupported directions other_signs) UnsupportedDirection) losses }
 {
-    let losses = report_if(losses, 0 < directions[1], Loss::UnsupportedDirection);
-    let losses = report_if(losses, 0 < directions[3], Loss::UnsupportedDirection);
-    let losses = report_if(losses, 0 < directions[7], Loss::UnsupportedDirection);
-    let losses = report_if(losses, 0 < directions[11], Loss::UnsupportedDirection);
-    let losses = report_if(losses, 0 < directions[13], Loss::UnsupportedDirection);
-    let losses = report_if(losses, 0 < directions[14], Loss::UnsupportedDirection);
-    let losses = report_if(losses, 0 < directions[15], Loss::UnsupportedDirection);
-    let losses = report_if(losses, 0 < directions[16], Loss::UnsupportedDirection);
-    report_if(losses, 0 < directions[18], Loss::UnsupportedDirection)
+    let mut losses = losses;
+    for n in OTHER_SIGNS {
+        lose_if(&mut losses, 0 < directions[n], Loss::UnsupportedDirection);
+    }
+    losses
 }
 
 pub fn song_losses(swing: bool, directions: [u16; 19]) -> [u32; 17]
@@ -64,10 +63,7 @@ pub fn song_losses(swing: bool, directions: [u16; 19]) -> [u32; 17]
 fn counted_if(count: u32, lost: bool) -> u32
     ensures { result ≡ pick lost (word_plus count 1) count }
 {
-    if lost {
-        return words::plus(count, 1);
-    }
-    count
+    if lost { words::plus(count, 1) } else { count }
 }
 
 // The word is stored whether there is a loss or not: a branch that is taken by chance costs more than a store.
@@ -148,11 +144,8 @@ fn notes_losses(losses: &mut Losses, strings: u8, notes: &Notes, v: u32)
     ensures { (s : List ℕ) → losses.new
         ≡ reports (rule.notes_losses strings 0 (notes_in s v strings notes.now)) losses.old }
 {
-    let mut left = (strings % 128) as u32;
-    while left != 0 {
-        let string = first_string(left);
+    for string in Strings::of(strings as u32) {
         note_losses(losses, notes, string, v);
-        left = other_strings(left, string);
     }
 }
 
@@ -170,27 +163,24 @@ fn reading_losses(losses: &mut Losses, b: &Beat, notes: &Notes, v: u32)
     notes_losses(losses, beat::field::strings(b), notes, v);
 }
 
-// ---- of building its row
+// ---- of building its row: of each note and of each grace in two functions, whose bodies have no line in common
 
 fn is_beyond(hand: LeftHand) -> bool
     ensures { result ≡ rule.is_beyond hand }
 {
-    match hand {
-        LeftHand::NoFinger => false,
-        LeftHand::Finger(_) => false,
-        LeftHand::Beyond => true,
-    }
+    hand == LeftHand::Beyond
 }
 
-fn on_beat(grace: GraceNote) -> bool
+fn on_beat(grace: Option<Grace>) -> bool
     ensures { result ≡ on_beat grace }
 {
     match grace {
-        GraceNote::NoGrace => false,
-        GraceNote::Before(g) => g.on_beat,
+        None => false,
+        Some(g) => g.on_beat,
     }
 }
 
+#[tactic(auto, using(words::proofs::Reports::reports_none, words::proofs::Reports::reports_append))]
 fn built_losses(losses: &mut Losses, notes: &Notes, string: usize)
     ensures { (v : ℕ)
         → losses.new
@@ -201,30 +191,28 @@ fn built_losses(losses: &mut Losses, notes: &Notes, string: usize)
     }
     let rung = field::palm_mute(notes, string) & field::let_ring(notes, string);
     lose_if(losses, rung, Loss::LetRingWithPalmMute);
-    let hand = field::left_hand(notes, string);
-    lose_if(losses, is_beyond(hand), Loss::UnsupportedFingering);
+    let beyond = is_beyond(field::left_hand(notes, string));
+    lose_if(losses, beyond, Loss::UnsupportedFingering);
 }
 
+#[tactic(auto, unfolding(draft::specs::Chord::chord_in), using(crate::proofs::Counting::members_next, crate::proofs::Counting::members_end))]
 fn member_losses(losses: &mut Losses, notes: &Notes, chord: &[u32])
     ensures { (s : List ℕ) (v : ℕ) → losses.new
         ≡ reports (rule.member_losses (chord_in s v notes.now chord.now)) losses.old }
 {
-    let mut i: usize = 0;
-    while i < chord.len() {
-        built_losses(losses, notes, chord::string_of(chord[i]));
-        i += 1;
+    for struck in chord {
+        built_losses(losses, notes, chord::string_of(*struck));
     }
 }
 
+#[tactic(auto, unfolding(draft::specs::Chord::chord_in), using(crate::proofs::Counting::graces_next, crate::proofs::Counting::graces_end))]
 fn grace_losses(losses: &mut Losses, notes: &Notes, chord: &[u32])
     ensures { (s : List ℕ) (v : ℕ) → losses.new
         ≡ reports (rule.grace_losses (graces (chord_in s v notes.now chord.now))) losses.old }
 {
-    let mut i: usize = 0;
-    while i < chord.len() {
-        let grace = field::grace(notes, chord::string_of(chord[i]));
+    for struck in chord {
+        let grace = field::grace(notes, chord::string_of(*struck));
         lose_if(losses, on_beat(grace), Loss::OnBeatGrace);
-        i += 1;
     }
 }
 
@@ -237,7 +225,7 @@ fn building_losses(losses: &mut Losses, b: &Beat, notes: &Notes, chord: &[u32], 
     grace_losses(losses, notes, chord);
     lose_if(
         losses,
-        (chord.len() != 0) & beat::field::artificial_harmonic(b, v),
+        !chord.is_empty() & beat::field::artificial_harmonic(b, v),
         Loss::HarmonicType,
     );
 }

@@ -8,18 +8,20 @@ ghost use Rattle.words.specs.Words.{word_plus};
 use beat::places::Beat;
 use note::bend::Bend;
 use note::field;
-use note::notes::{first_string, other_strings};
+use note::notes::Strings;
 use note::places::Notes;
 use words::plus;
 
 // The points of a bend and two more; a bend without points needs none.
+#[tactic(auto, using(crate::proofs::Sums::no_room_lem, crate::proofs::Sums::room))]
 fn bend_room(bend: Bend) -> u32
     ensures { (s : List ℕ) → result ≡ word_plus 0 (bend_room (bend_in s bend)) }
 {
     if bend.count == 0 {
-        return 0;
+        0
+    } else {
+        plus(bend.count, 2)
     }
-    plus(bend.count, 2)
 }
 
 // Of every note that is read, also on a string that the track does not have; as far as a word goes.
@@ -28,11 +30,8 @@ pub fn bend_rooms(b: &Beat, notes: &Notes) -> u32
         (beat_in s v b.now notes.now).notes) }
 {
     let mut rooms: u32 = 0;
-    let mut left = (beat::field::strings(b) % 128) as u32;
-    while left != 0 {
-        let string = first_string(left);
+    for string in Strings::of(beat::field::strings(b) as u32) {
         rooms = plus(rooms, bend_room(field::bend(notes, string)));
-        left = other_strings(left, string);
     }
     rooms
 }

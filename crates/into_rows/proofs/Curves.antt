@@ -1,17 +1,13 @@
--- The points of a bend, gathered where they stand in the file and read off in order.
+-- The points of a bend, gathered where they stand in the file.
 use Prim.Native.Nat.{ℕ, zero, suc, ◌+◌, ◌-◌, ◌<◌, ◌≤◌, min}
 use native.Mathlib.Omega.{arith}
 use native.Mathlib.Decide.{dec_le}
 use native.Mathlib.Nat.{min-eq_left, min-eq_right}
-use mathlib.Core.Path.{◌≡◌, refl, ap, ◌∙◌}
+use mathlib.Core.Path.{◌≡◌, refl}
 use mathlib.Core.List.{List, [], ◌∷◌, map}
 use lib.ListN.{length, get_or-eq_default}
 use Rattle.model.specs.declared.Point.{Point}
-use Rattle.curve.specs.declared.bend.NextPoint.TheVariants.{Here, End}
-use Rattle.curve.specs.declared.bend.Slots.{Slots}
 use Rattle.curve.specs.Bend.{point_of, finish}
-use Rattle.curve.proofs.Laws.{left_next}
-use Rattle.curve.specs.Slots.{left, left_of, next_point}
 use Rattle.note.specs.declared.bend.Bend.{Bend}
 use Rattle.note.specs.Points.{BendPoint, word, points_at, bend_in}
 use Rattle.score.specs.Rows.{curve_of}
@@ -64,16 +60,3 @@ points_held s at n = elim (dec_le at (length s)) [
 pub no_curve : (s : List ℕ) (b : Bend) → b.count ≡ 0 → curve_of (bend_in s b) ≡ []
 unfolding finish points_at
 no_curve s b e = rw e
-
--- ---- in order
-
-pub left_here : (curve : Slots) (from : ℕ) {p : Point} {next : ℕ} → next_point curve from ≡ Here p next
-    → left curve from ≡ p ∷ left curve next
-left_here curve from e = left_next curve from ∙ ap (left_of curve) e
-
-pub left_none : (curve : Slots) (from : ℕ) → next_point curve from ≡ End → left curve from ≡ []
-left_none curve from e = left_next curve from ∙ ap (left_of curve) e
-
-pub no_more : (ps : List Point) → length ps ≡ 0 → ps ≡ []
-no_more [] h = refl
-no_more (p ∷ ps) h = absurd (omega arith)

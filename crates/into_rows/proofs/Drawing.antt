@@ -1,4 +1,5 @@
 -- A row by its draft, with the members and the curve that it has.
+use Rattle.std.specs.Prelude.{None, Option, Some}
 use Prim.Native.Nat.{ℕ, ◌*◌}
 use native.Mathlib.Omega.{arith}
 use mathlib.Core.Path.{◌≡◌, refl, ◌∙◌}
@@ -17,7 +18,6 @@ use Rattle.entries.specs.Words.{row_stride, row_words}
 use Rattle.score.specs.declared.Hammer.{Hammer}
 use Rattle.score.specs.declared.KeptCounts.{KeptCounts}
 use Rattle.score.specs.declared.OttavaRun.{OttavaRun}
-use Rattle.score.specs.declared.OttavaRun.TheVariants.{NoRun, Over}
 use Rattle.score.specs.declared.Voice.{Voice}
 use Rattle.score.specs.Page.{first_key, lower_first, pulls, span_of, hammer_after, last_after, run_after, ottava_marks, turn_hammer, turn_run, row_entry}
 use Rattle.draft.specs.declared.Draft.{Draft}
@@ -37,20 +37,20 @@ module _ (ms : List Member) (ps : List Point) (d : Draft) where
   pulled company key sums = rw (← sums.count, ← sums.key, lower ms key)
 
   -- what an ottava does hangs on neither members nor curve
-  same_turn : (run : OttavaRun) (t : List ℕ)
+  same_turn : (run : Option OttavaRun) (t : List ℕ)
       → turn_run (words []) run (undrawn d) t ≡ turn_run (words []) run (drawn ms ps d) t
-  same_turn NoRun t = refl
-  same_turn (Over n kind) t = refl
+  same_turn None t = refl
+  same_turn (Some o) t = refl
 
-  same_marks : (run : OttavaRun) → ottava_marks (undrawn d) run ≡ ottava_marks (drawn ms ps d) run
-  same_marks NoRun = refl
-  same_marks (Over n kind) = refl
+  same_marks : (run : Option OttavaRun) → ottava_marks (undrawn d) run ≡ ottava_marks (drawn ms ps d) run
+  same_marks None = refl
+  same_marks (Some o) = refl
 
-  same_run : (n : ℕ) (run : OttavaRun) → run_after n (undrawn d) run ≡ run_after n (drawn ms ps d) run
-  same_run n NoRun = refl
-  same_run n (Over k kind) = refl
+  same_run : (n : ℕ) (run : Option OttavaRun) → run_after n (undrawn d) run ≡ run_after n (drawn ms ps d) run
+  same_run n None = refl
+  same_run n (Some o) = refl
 
-  pub row_added : (kept : KeptCounts) (hammer : Hammer) (run : OttavaRun) (rows : List ℕ) {marks : OttavaMarks} {row : Row}
+  pub row_added : (kept : KeptCounts) (hammer : Option Hammer) (run : Option OttavaRun) (rows : List ℕ) {marks : OttavaMarks} {row : Row}
       {turned carried entered : List ℕ} → turned ≡ turn_hammer (words []) hammer (drawn ms ps d) rows
       → carried ≡ turn_run (words []) run (undrawn d) turned
       → marks ≡ ottava_marks (undrawn d) run
@@ -62,7 +62,7 @@ module _ (ms : List Member) (ps : List Point) (d : Draft) where
   row_added kept hammer run rows eh er em ew e =
       rw (e, ew, em ∙ same_marks run, er ∙ same_turn run _, eh)
 
-  pub voice_kept : (company : Company) (kept : KeptCounts) (voice : Voice) {own last : Span} {hammer : Hammer} {run : OttavaRun}
+  pub voice_kept : (company : Company) (kept : KeptCounts) (voice : Voice) {own last : Span} {hammer : Option Hammer} {run : Option OttavaRun}
       {v₁ v₂ v₃ : Voice} → Sums ms company
       → own ≡ span_of kept.members company.count
       → last ≡ last_after d.kind own voice.last

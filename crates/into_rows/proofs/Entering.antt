@@ -1,4 +1,5 @@
 -- Entries and ties in the tables of words: one after another, and whatever the file.
+use Rattle.std.specs.Prelude.{None, Option, Some}
 use Prim.Native.Nat.{ℕ, zero, suc, ◌+◌, ◌*◌, ◌-◌, ◌<◌}
 use native.Mathlib.Omega.{arith}
 use native.Mathlib.Nat.{add-zero}
@@ -14,9 +15,7 @@ use Rattle.model.specs.Kinds.{flag_word}
 use Rattle.tables.specs.Table.{stores}
 use Rattle.entries.specs.Words.{member_stride, member_words, point_stride, point_words, tie_start_at}
 use Rattle.score.specs.declared.Hammer.{Hammer}
-use Rattle.score.specs.declared.Hammer.TheVariants.{NoHammer, Waits}
 use Rattle.score.specs.declared.OttavaRun.{OttavaRun}
-use Rattle.score.specs.declared.OttavaRun.TheVariants.{NoRun, Over}
 use Rattle.score.specs.Page as Page
 use Rattle.score.specs.Page.{add_all, start_ties, turn_hammer, turn_run}
 use Rattle.score.specs.Rows.{RowIs}
@@ -63,10 +62,10 @@ module _ (s : List ℕ) where
   ties_started last [] t = refl
   ties_started last (m ∷ ms) t = ties_started last ms _
 
-  pub hammer_turned : (h : Hammer) (r : RowIs) (t : List ℕ) → turn_hammer (words s) h r t ≡ turn_hammer (words []) h r t
-  hammer_turned NoHammer r t = refl
-  hammer_turned (Waits n key) r t = refl
+  pub hammer_turned : (h : Option Hammer) (r : RowIs) (t : List ℕ) → turn_hammer (words s) h r t ≡ turn_hammer (words []) h r t
+  hammer_turned None r t = refl
+  hammer_turned (Some w) r t = refl
 
-  pub run_turned : (run : OttavaRun) (r : RowIs) (t : List ℕ) → turn_run (words s) run r t ≡ turn_run (words []) run r t
-  run_turned NoRun r t = refl
-  run_turned (Over n kind) r t = refl
+  pub run_turned : (run : Option OttavaRun) (r : RowIs) (t : List ℕ) → turn_run (words s) run r t ≡ turn_run (words []) run r t
+  run_turned None r t = refl
+  run_turned (Some o) r t = refl

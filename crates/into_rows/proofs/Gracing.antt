@@ -1,4 +1,5 @@
 -- The members of a grace row, note by note of its chord.
+use Rattle.std.specs.Prelude.{None, Option, Some}
 use Prim.Native.Nat.{ℕ, suc, ◌+◌, ◌*◌, ◌<◌}
 use native.Mathlib.Omega.{arith}
 use native.Mathlib.Nat.{add-zero}
@@ -15,8 +16,6 @@ use Rattle.model.specs.declared.Span.{Span}
 use Rattle.curve.specs.Key.{grace_key}
 use Rattle.entries.specs.Words.{member_stride, member_words}
 use Rattle.note.specs.declared.marks.Grace.{Grace}
-use Rattle.note.specs.declared.marks.GraceNote.{GraceNote}
-use Rattle.note.specs.declared.marks.GraceNote.TheVariants.{NoGrace, Before}
 use Rattle.note.specs.Words.{read_in}
 use Rattle.score.specs.declared.Fretboard.{Fretboard}
 use Rattle.score.specs.Members.{Keyed, Graced, graced_after, graces, grace_member}
@@ -61,23 +60,23 @@ module _ (s : List ℕ) (v : ℕ) (notes : List ℕ) where
   abbrev graced_by : Grace → ℕ → Graced
   graced_by g struck = record { grace = g; note = keyed_in s v notes struck }
 
-  pub no_grace_lem : (struck : ℕ) {i : ℕ} {given : GraceNote} → i ≡ string_of struck
+  pub no_grace_lem : (struck : ℕ) {i : ℕ} {given : Option Grace} → i ≡ string_of struck
       → given ≡ (read_in v notes i).effects.grace
-      → given ≡ NoGrace
+      → given ≡ None
       → grace_in struck ≡ []
   no_grace_lem struck e f none = rw (← (rw e at f), none)
 
-  pub the_grace : (struck : ℕ) {i : ℕ} {given : GraceNote} {g : Grace} → i ≡ string_of struck
+  pub the_grace : (struck : ℕ) {i : ℕ} {given : Option Grace} {g : Grace} → i ≡ string_of struck
       → given ≡ (read_in v notes i).effects.grace
-      → given ≡ Before g
+      → given ≡ Some g
       → grace_in struck ≡ graced_by g struck ∷ []
   the_grace struck e f one = rw (← (rw e at f), one)
 
   -- ---- how many
-  counted : (n : ℕ) (given : GraceNote) (x : Keyed) (gs : List Graced)
+  counted : (n : ℕ) (given : Option Grace) (x : Keyed) (gs : List Graced)
       → n + length (graced_after given x []) + length gs ≡ n + length (graced_after given x gs)
-  counted n NoGrace x gs = rw add-zero
-  counted n (Before g) x gs = omega arith
+  counted n None x gs = rw add-zero
+  counted n (Some g) x gs = omega arith
 
   pub next_number : (chord : List ℕ) (n i : ℕ) {m : ℕ} → i < length chord
       → m ≡ n + length (grace_in (get_or chord i 0))
@@ -89,32 +88,32 @@ module _ (s : List ℕ) (v : ℕ) (notes : List ℕ) where
       (counted n x.sound.note.read.effects.grace x (graces (chord_in s v notes (drop (suc i) chord))))
 
   -- one without a grace
-  pub none_here : (chord : List ℕ) (i : ℕ) {string : ℕ} {given : GraceNote} → i < length chord
+  pub none_here : (chord : List ℕ) (i : ℕ) {string : ℕ} {given : Option Grace} → i < length chord
       → string ≡ string_of (get_or chord i 0)
       → given ≡ (read_in v notes string).effects.grace
-      → given ≡ NoGrace
+      → given ≡ None
       → graces_in (drop (i + 1) chord) ≡ graces_in (drop i chord)
   unfolding chord_in
   none_here chord i h e f none = rw (drop-cons chord i 0 h, add-one i, ← (rw e at f), none)
 
   module _ (board : Fretboard) (flat : Bool) where
     -- ---- in their table
-    pub grace_stored : (struck : ℕ) (t : List ℕ) (n : ℕ) {i : ℕ} {given : GraceNote} {g : Grace} {m : Member} {now : List ℕ}
+    pub grace_stored : (struck : ℕ) (t : List ℕ) (n : ℕ) {i : ℕ} {given : Option Grace} {g : Grace} {m : Member} {now : List ℕ}
         → i ≡ string_of struck
         → given ≡ (read_in v notes i).effects.grace
-        → given ≡ Before g
+        → given ≡ Some g
         → m ≡ grace_member board flat (graced_by g struck)
         → now ≡ sets t (n * member_stride) (member_words m)
         → now ≡ stores member_words member_stride t n (graces_as board flat (grace_in struck))
     grace_stored struck t n e f one em en = rw (the_grace struck e f one) (en ∙ rw em)
 
-    both : (t : List ℕ) (n : ℕ) (given : GraceNote) (x : Keyed) (gs : List Graced)
+    both : (t : List ℕ) (n : ℕ) (given : Option Grace) (x : Keyed) (gs : List Graced)
         → stores member_words member_stride (stores member_words member_stride t n (graces_as board flat (graced_after given x [])))
         (n + length (graced_after given x []))
         (graces_as board flat gs)
         ≡ stores member_words member_stride t n (graces_as board flat (graced_after given x gs))
-    both t n NoGrace x gs = rw add-zero
-    both t n (Before g) x gs = refl
+    both t n None x gs = rw add-zero
+    both t n (Some g) x gs = refl
 
     pub next_graces : (chord t : List ℕ) (n i : ℕ) {m : ℕ} {now : List ℕ} → i < length chord
         → m ≡ n + length (grace_in (get_or chord i 0))
@@ -128,10 +127,10 @@ module _ (s : List ℕ) (v : ℕ) (notes : List ℕ) where
         (both t n x.sound.note.read.effects.grace x (graces (chord_in s v notes (drop (suc i) chord))))
 
     -- ---- the first
-    pub first_grace : (chord : List ℕ) (i : ℕ) {string key fret r : ℕ} {given : GraceNote} {g : Grace} → i < length chord
+    pub first_grace : (chord : List ℕ) (i : ℕ) {string key fret r : ℕ} {given : Option Grace} {g : Grace} → i < length chord
         → string ≡ string_of (get_or chord i 0)
         → given ≡ (read_in v notes string).effects.grace
-        → given ≡ Before g
+        → given ≡ Some g
         → key ≡ key_of (get_or chord i 0)
         → fret ≡ (read_in v notes string).fret
         → r ≡ grace_key key fret g.fret

@@ -1,4 +1,5 @@
 -- The row of a beat of plain notes: its words, what it does to the rows before it, and its tables.
+use Rattle.std.specs.Prelude.{None, Option, Some, ℕ}
 use Prim.Native.Nat.{ℕ, ◌+◌, ◌*◌, ◌≤◌, ◌%◌, min}
 use native.Mathlib.Omega.{arith}
 use native.Mathlib.Nat.{add-zero}
@@ -21,13 +22,10 @@ use Rattle.model.specs.declared.Span.{Span}
 use Rattle.model.specs.Kinds.{duration_word, actual_word, normal_word, dynamic_word, note_head_word, ottava_word, finger_word, flag_word}
 use Rattle.entries.specs.Words.{row_stride, front_words, back_words, row_words, member_stride, member_words}
 use Rattle.curve.specs.Bend.{curve_height}
-use Rattle.curve.specs.declared.level.Level.{Level}
 use Rattle.beat.specs.Beat.{BeatIs}
 use Rattle.score.specs.declared.Fretboard.{Fretboard}
-use Rattle.score.specs.declared.Hammer.TheVariants.{NoHammer}
 use Rattle.score.specs.declared.KeptCounts.{KeptCounts}
 use Rattle.score.specs.declared.OttavaRun.{OttavaRun}
-use Rattle.score.specs.declared.OttavaRun.TheVariants.{NoRun, Over}
 use Rattle.score.specs.declared.Voice.{Voice}
 use Rattle.score.specs.Losses.{is_rest}
 use Rattle.score.specs.Members.{Keyed, member_of}
@@ -46,6 +44,7 @@ pub none_more : (a : ℕ) → a ≤ LARGEST → a ≡ word_plus a 0
 unfolding word_plus
 none_more a h = rw (add-zero a, le-leb a LARGEST h)
 
+-- one of none is under no ottava
 no_ottava : (kind : Ottava) → eqb (ottava_word kind) 0 ≡ eqb 0 (ottava_word kind)
 no_ottava O.NoOttava = refl
 no_ottava O.Va8 = refl
@@ -53,7 +52,7 @@ no_ottava O.Vb8 = refl
 no_ottava O.Ma15 = refl
 no_ottava O.Mb15 = refl
 
-module _ (place : RowPlace) (board : Fretboard) (flat : Bool) (mark : Level) (b : BeatIs) where
+module _ (place : RowPlace) (board : Fretboard) (flat : Bool) (mark : Option ℕ) (b : BeatIs) where
   abbrev members_of : List Keyed → List Member
   members_of xs = map (member_of board flat) xs
 
@@ -72,22 +71,22 @@ module _ (place : RowPlace) (board : Fretboard) (flat : Bool) (mark : Level) (b 
   pulls_off (x ∷ xs) company key sums =
       rw (← sums.count, ← sums.key, ne_eqb (length (members_of (x ∷ xs))) 0 (λ e. omega arith))
 
-  pub no_run : (n : ℕ) (xs : List Keyed) → NoRun ≡ run_after n (row xs) NoRun
+  pub no_run : (n : ℕ) (xs : List Keyed) → None ≡ run_after n (row xs) None
   unfolding plain_row
   no_run n [] = refl
   no_run n (x ∷ xs) = refl
 
-  pub run_over : (n : ℕ) (xs : List Keyed) {k : ℕ} {kind : Ottava} {run : OttavaRun} {rest is : Bool} → run ≡ Over k kind
+  pub run_over : (n : ℕ) (xs : List Keyed) {k : ℕ} {kind : Ottava} {run : Option OttavaRun} {rest is : Bool} → run ≡ Some (record { row = k; kind = kind })
       → rest ≡ is_rest xs
       → rest && eqb (ottava_word kind) 0 ≡ is
-      → pick is (Over k kind) NoRun ≡ run_after n (row xs) run
+      → pick is (Some (record { row = k; kind = kind })) None ≡ run_after n (row xs) run
   unfolding plain_row
   run_over n xs {kind = kind} o e t = rw (o, ← t, e, no_ottava kind)
 
-  no_turn : (s : List ℕ) (run : OttavaRun) (xs : List Keyed) (t : List ℕ) → t ≡ turn_run (words s) run (row xs) t
+  no_turn : (s : List ℕ) (run : Option OttavaRun) (xs : List Keyed) (t : List ℕ) → t ≡ turn_run (words s) run (row xs) t
   unfolding plain_row
-  no_turn s NoRun xs t = refl
-  no_turn s (Over n kind) xs t = refl
+  no_turn s None xs t = refl
+  no_turn s (Some o) xs t = refl
 
   -- ---- its words
   pub plain_stored : (rows : List ℕ) (xs : List Keyed) (kept : KeptCounts) {company : Company} {own : Span}
@@ -128,7 +127,7 @@ module _ (place : RowPlace) (board : Fretboard) (flat : Bool) (mark : Level) (b 
         ∙ ap (λ (l : List ℕ). sets l (kept.rows * row_stride) (row_words (row_entry (row xs) no_marks kept)))
         (et ∙ sym (hammer_turned s voice.hammer (row xs) rows) ∙ no_turn s voice.run xs _)
 
-    pub plain_kept : {company : Company} {own : Span} {run : OttavaRun} {t r n m : List ℕ} {k₁ k₂ k₃ : ℕ} {v₁ v₂ v₃ : Voice}
+    pub plain_kept : {company : Company} {own : Span} {run : Option OttavaRun} {t r n m : List ℕ} {k₁ k₂ k₃ : ℕ} {v₁ v₂ v₃ : Voice}
         → Sums (members_of xs) company
         → t ≡ turn_hammer (words []) voice.hammer (row xs) rows
         → r ≡ sets t (kept.rows * row_stride) (row_words (row_entry (row xs) no_marks kept))
@@ -139,7 +138,7 @@ module _ (place : RowPlace) (board : Fretboard) (flat : Bool) (mark : Level) (b 
         → k₂ ≡ word_plus kept.members company.count
         → k₃ ≡ word_plus kept.points 0
         → run ≡ run_after kept.rows (row xs) voice.run
-        → v₁ ≡ with_hammer voice NoHammer
+        → v₁ ≡ with_hammer voice None
         → v₂ ≡ with_last v₁ own
         → v₃ ≡ with_run v₂ run
         → rowing_of r m points (record { rows = k₁; members = k₂; points = k₃ }) v₃
@@ -150,8 +149,8 @@ module _ (place : RowPlace) (board : Fretboard) (flat : Bool) (mark : Level) (b 
         let its_members : m ≡ (keep_row (words s) (row xs) (rowing_of rows members points kept voice)).members = rw (em, en) (sym (members_kept s kept voice rows members points (row xs))) in
         let span : own ≡ span_of kept.members (length (members_of xs)) = rw sums.count eo in
         let more : k₂ ≡ word_plus kept.members (length (members_of xs)) = rw sums.count e₂ in
-        let after : v₃ ≡ record { frets = voice.frets; hammer = NoHammer; last = own; run = run } = rw (ev, el, eh) in
+        let after : v₃ ≡ record { frets = voice.frets; hammer = None; last = own; run = run } = rw (ev, el, eh) in
         ap (rowing_of _ _ _ _) after
         ∙ (λ i.
         rowing_of (its-row i) (its_members i) points (record { rows = e₁ i; members = more i; points = e₃ i })
-        (record { frets = voice.frets; hammer = NoHammer; last = span i; run = eu i }))
+        (record { frets = voice.frets; hammer = None; last = span i; run = eu i }))

@@ -16,9 +16,10 @@ use Rattle.into_rows.specs.declared.points.Bent.{Bent}
 use Rattle.words.specs.Words.{Words, word_plus}
 use Rattle.words.specs.Meant.{rowing_of}
 use Rattle.words.specs.Voices.{voice_in}
+use Rattle.words.specs.declared.voice.VoiceWords.{VoiceWords}
 
 -- the tables that a row is entered in, with what is kept and the words of its voice
-abbrev pub rowing_in : (rows members points : List ℕ) → KeptCounts → (voice : List ℕ) → Rowing Words
+abbrev pub rowing_in : (rows members points : List ℕ) → KeptCounts → VoiceWords → Rowing Words
 rowing_in rows members points kept voice = rowing_of rows members points kept (voice_in voice)
 
 -- what a row holds of its members

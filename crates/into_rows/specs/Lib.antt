@@ -1,2 +1,3 @@
 pub mod Entry
 pub mod Plain
+pub mod Tables

@@ -1,6 +1,5 @@
 -- The row of a beat of plain notes.
-use Rattle.std.specs.Prelude.{Bool, false, List, [], map}
-use Rattle.curve.specs.declared.level.Level.{Level}
+use Rattle.std.specs.Prelude.{Bool, false, List, [], map, Option, ℕ}
 use Rattle.model.specs.declared.Arpeggio.TheVariants.{NoArpeggio}
 use Rattle.model.specs.declared.Ottava.TheVariants.{NoOttava}
 use Rattle.model.specs.declared.OttavaMarks.{OttavaMarks}
@@ -20,7 +19,7 @@ abbrev pub no_marks : OttavaMarks
 no_marks = record { start = NoOttava; end = false }
 
 -- `beat_row` of Rows where neither the beat nor a note has effects, and the mark is known
-unfoldable pub plain_row : RowPlace → Fretboard → Bool → Level → BeatIs → List Keyed → RowIs
+unfoldable pub plain_row : RowPlace → Fretboard → Bool → Option ℕ → BeatIs → List Keyed → RowIs
 plain_row place board flat mark b xs =
     record {
       place = place;

@@ -11,14 +11,15 @@ ghost use Rattle.words.specs.Words.{answers_word, start_words, words};
 ghost use Rattle.into_rows.specs.Entry.{Sums};
 
 use draft::{chord, member};
-use entries::members::{MEMBER_WORDS, set_tie_start, store_member};
+use entries::Entry;
+use entries::members::{MEMBER_WORDS, set_tie_start};
 use model::{Finger, Member, Span, kinds};
 use note::field;
-use note::marks::GraceNote;
 use note::places::Notes;
 use score::Fretboard;
 
-// What a row holds of its members: how many, the key of the first, 0 where there is none, and the finger of an only one.
+// What a row holds of its members: how many, the key of the first, 0 where there is none, and the finger of an only one. No Option: the
+// count says that there is none.
 #[derive(Clone, Copy)]
 pub struct Company {
     pub count: u32,
@@ -32,32 +33,31 @@ pub struct Company {
 fn answers(tied: Member, key: u32, string: u32) -> bool
     ensures { result ≡ answers_word tied key string }
 {
-    let position = tied.position;
-    let own = kinds::string_word(position);
+    let own = kinds::string_word(tied.position);
     if own == 0 {
-        return kinds::byte_word(tied.key) == key;
+        u32::from(tied.key) == key
+    } else {
+        own == string
     }
-    own == string
 }
 
 // A tie starts at the first of the last beat's members that a tied one answers.
+#[tactic(auto, using(crate::proofs::Entering::start_here, crate::proofs::Entering::start_later))]
 fn start_tie(members: &mut [u32], last: Span, tied: Member)
     ensures { members.new ≡ start_words last.first last.count tied members.old }
 {
-    let mut i = last.first as usize;
-    let mut left = last.count;
-    while 0 < left {
+    let first = last.first as usize;
+    for i in first..first + last.count as usize {
         let key = tables::load_field(members, i, MEMBER_WORDS, 0);
         let string = tables::load_field(members, i, MEMBER_WORDS, 2);
         if answers(tied, key, string) {
             set_tie_start(members, i, true);
             return;
         }
-        i += 1;
-        left -= 1;
     }
 }
 
+#[tactic(auto, using(crate::proofs::Gathering::tied_starts, crate::proofs::Gathering::untied_stays))]
 fn start_if_tied(
     members: &mut [u32],
     last: Span,
@@ -74,6 +74,8 @@ fn start_if_tied(
     }
 }
 
+// The fretboard, the notes and the chord stand apart here: a struct of them would be made for two calls, and taken apart at once.
+#[tactic(auto, unfolding(draft::specs::Chord::chord_in), using(crate::proofs::Gathering::next_ties))]
 pub(crate) fn start_ties(
     members: &mut [u32],
     last: Span,
@@ -85,10 +87,8 @@ pub(crate) fn start_ties(
     ensures { (s : List ℕ) (v : ℕ) → members.new
         ≡ start_ties (words []) last (map (member_of board flat) (chord_in s v notes.now chord.now)) members.old }
 {
-    let mut i: usize = 0;
-    while i < chord.len() {
-        start_if_tied(members, last, board, flat, notes, chord[i]);
-        i += 1;
+    for struck in chord {
+        start_if_tied(members, last, board, flat, notes, *struck);
     }
 }
 
@@ -99,21 +99,17 @@ fn unfingered_if(only: bool, member: Member) -> Member
     ensures { result ≡ pick only (unfingered member) member }
 {
     if only {
-        let position = member.position;
-        let ties = member.ties;
-        return Member {
-            key: member.key,
-            flat: member.flat,
-            position,
-            ghosted: member.ghosted,
-            ties,
+        Member {
             finger: Finger::NoFinger,
-        };
+            ..member
+        }
+    } else {
+        member
     }
-    member
 }
 
 // From member number `first` on, as far as the table goes.
+#[tactic(auto, using(crate::proofs::Gathering::next_member))]
 pub(crate) fn add_members(
     members: &mut [u32],
     first: u32,
@@ -129,51 +125,51 @@ pub(crate) fn add_members(
 {
     let only = chord.len() == 1;
     let start = first as usize;
-    let mut i: usize = 0;
-    while i < chord.len() {
-        let member = member::member_of(board, flat, notes, chord[i]);
-        store_member(members, start + i, unfingered_if(only, member));
-        i += 1;
+    for (i, struck) in chord.iter().enumerate() {
+        let member = member::member_of(board, flat, notes, *struck);
+        unfingered_if(only, member).store(members, start + i);
     }
 }
 
+#[tactic(auto, using(crate::proofs::Gathering::only_finger, crate::proofs::Gathering::no_finger))]
 fn plain_finger(notes: &Notes, chord: &[u32]) -> Finger
     ensures { (s : List ℕ) (v : ℕ) (board : Fretboard) (flat : Bool) →
         plain_finger (map (member_of board flat) (chord_in s v notes.now chord.now)) ≡ result }
 {
-    if chord.len() == 1 {
-        let hand = field::left_hand(notes, chord::string_of(chord[0]));
-        return member::finger_of(hand);
-    }
-    Finger::NoFinger
+    let [struck] = chord else {
+        return Finger::NoFinger;
+    };
+    member::finger_of(field::left_hand(notes, chord::string_of(*struck)))
 }
 
+#[tactic(auto, using(crate::proofs::Gathering::no_key, crate::proofs::Gathering::the_key))]
 fn first_key(chord: &[u32]) -> u8
     ensures { (s : List ℕ) (v : ℕ) (w : List ℕ) (board : Fretboard) (flat : Bool) →
         first_key (map (member_of board flat) (chord_in s v w chord.now)) ≡ result }
 {
-    if chord.len() == 0 {
-        return 0;
+    match chord.first() {
+        Some(struck) => chord::key_of(*struck),
+        None => 0,
     }
-    chord::key_of(chord[0])
 }
 
+#[tactic(auto, using(crate::proofs::Gathering::as_many))]
 pub(crate) fn company_of(notes: &Notes, chord: &[u32]) -> Company
     requires { length chord.now ≤ 7 }
     ensures { (s : List ℕ) (v : ℕ) (board : Fretboard) (flat : Bool) →
         Sums (map (member_of board flat) (chord_in s v notes.now chord.now)) result }
 {
-    let finger = plain_finger(notes, chord);
     Company {
         count: chord.len() as u32,
         key: first_key(chord),
-        finger,
+        finger: plain_finger(notes, chord),
     }
 }
 
-// ---- graces: grace members stand as their notes
+// ---- graces: grace members stand as their notes. Apart from members, since graces are counted as they are added and have no finger
 
 // The grace of a struck note as member number `n`, if it has one; the number after it.
+#[tactic(auto, using(crate::proofs::Gracing::no_grace_lem, crate::proofs::Gracing::the_grace, crate::proofs::Gracing::grace_stored))]
 fn add_grace(
     members: &mut [u32],
     n: usize,
@@ -189,16 +185,15 @@ fn add_grace(
         ≡ stores member_words member_stride members.old n
         (map (grace_member board flat) (graces (keyed_in s v notes.now struck ∷ []))) }
 {
-    let given = field::grace(notes, chord::string_of(struck));
-    let GraceNote::Before(grace) = given else {
+    let Some(grace) = field::grace(notes, chord::string_of(struck)) else {
         return n;
     };
-    let member = member::grace_member(board, flat, notes, struck, grace);
-    store_member(members, n, member);
+    member::grace_member(board, flat, notes, struck, grace).store(members, n);
     n + 1
 }
 
 // A grace has no finger, so that an only one keeps all that it has.
+#[tactic(auto, unfolding(draft::specs::Chord::chord_in))]
 pub(crate) fn add_graces(
     members: &mut [u32],
     first: u32,
@@ -215,36 +210,32 @@ pub(crate) fn add_graces(
 {
     let start = first as usize;
     let mut n = start;
-    let mut i: usize = 0;
-    while i < chord.len() {
-        n = add_grace(members, n, board, flat, notes, chord[i]);
-        i += 1;
+    for struck in chord {
+        n = add_grace(members, n, board, flat, notes, *struck);
     }
     (n - start) as u32
 }
 
+#[tactic(auto, unfolding(draft::specs::Chord::chord_in), using(crate::proofs::Gracing::none_here, crate::proofs::Gracing::first_grace))]
 fn first_grace_key(notes: &Notes, chord: &[u32]) -> u8
     ensures { (s : List ℕ) (v : ℕ) (board : Fretboard) (flat : Bool) →
         first_key (map (grace_member board flat) (graces (chord_in s v notes.now chord.now))) ≡ result }
 {
-    let mut i: usize = 0;
-    while i < chord.len() {
-        let struck = chord[i];
-        let string = chord::string_of(struck);
-        let given = field::grace(notes, string);
-        if let GraceNote::Before(grace) = given {
+    for struck in chord {
+        let string = chord::string_of(*struck);
+        if let Some(grace) = field::grace(notes, string) {
             return curve::key::grace_key(
-                chord::key_of(struck),
+                chord::key_of(*struck),
                 field::fret(notes, string),
                 grace.fret,
             );
         }
-        i += 1;
     }
     0
 }
 
 // `count` is how many graces there are.
+#[tactic(auto, using(crate::proofs::Gracing::as_many_graces, crate::proofs::Gracing::no_plain))]
 pub(crate) fn grace_company(notes: &Notes, chord: &[u32], count: u32) -> Company
     ensures { (s : List ℕ) (v : ℕ) (board : Fretboard) (flat : Bool) →
         count ≡ length (graces (chord_in s v notes.now chord.now)) →

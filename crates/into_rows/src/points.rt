@@ -7,22 +7,21 @@ ghost use Rattle.note.specs.Points.{word, bend_in};
 ghost use Rattle.score.specs.Rows.{curve_of};
 ghost use Rattle.into_rows.specs.Entry.{bent_of};
 
-use curve::bend;
-use curve::bend::{NextPoint, Slots};
-use entries::points::store_point;
-use model::Height;
+use curve::bend::Slots;
+use entries::Entry;
+use model::Cents;
 use note::bend::Bend;
 
 // What a row holds of its curve: how many points, and its height.
 #[derive(Clone, Copy)]
 pub struct Bent {
     pub count: u32,
-    pub height: Height,
+    pub height: Option<Cents>,
 }
 
 const STRAIGHT: Bent = Bent {
     count: 0,
-    height: Height::NoHeight,
+    height: None,
 };
 
 // The bytes of a point: its offset, its value, its vibrato.
@@ -32,13 +31,10 @@ const POINT: usize = 9;
 fn byte_after(s: &[u8], at: usize, k: usize) -> u32
     ensures { (result ≡ get_or s.now (at + k) 0) × (result < 256) }
 {
-    if s.len() < at {
-        return 0;
+    match s.get(at.saturating_add(k)) {
+        Some(byte) => *byte as u32,
+        None => 0,
     }
-    if k < s.len() - at {
-        return s[at + k] as u32;
-    }
-    0
 }
 
 // The number of four bytes that stands `k` after a position.
@@ -57,47 +53,33 @@ fn word_after(s: &[u8], at: usize, k: usize) -> u32
 fn point_after(s: &[u8], at: usize) -> usize
     ensures { result ≡ min (at + 9) (length s.now) }
 {
-    if s.len() < at {
-        return s.len();
-    }
-    if POINT < s.len() - at {
-        return at + POINT;
-    }
-    s.len()
+    at.saturating_add(POINT).min(s.len())
 }
 
 fn curve_of(s: &[u8], bend: Bend) -> Slots
     ensures { shown result ≡ curve_of (bend_in s.now bend) }
 {
-    let mut slots = bend::no_points();
+    let mut curve = Slots::new();
     let mut at = bend.start;
-    let mut left = bend.count;
-    while 0 < left {
-        slots = bend::with_point(slots, word_after(s, at, 0), word_after(s, at, 4));
+    for _ in 0..bend.count {
+        curve.add(word_after(s, at, 0), word_after(s, at, 4));
         at = point_after(s, at);
-        left -= 1;
     }
-    bend::finished(slots)
+    curve.finish();
+    curve
 }
 
-fn add_points(points: &mut [u32], first: u32, curve: Slots)
-    ensures { points.new ≡ stores point_words point_stride points.old first (shown curve) }
+// From point number `first` on, as far as the table goes.
+fn add_points(points: &mut [u32], first: u32, curve: &Slots)
+    ensures { points.new ≡ stores point_words point_stride points.old first (shown curve.now) }
 {
-    let mut n = first as usize;
-    let mut from: usize = 0;
-    let mut left = bend::point_count(curve);
-    while 0 < left {
-        let NextPoint::Here { point, next } = bend::next_point(curve, from) else {
-            return;
-        };
-        store_point(points, n, point);
-        n += 1;
-        from = next;
-        left -= 1;
+    for (i, point) in curve.points().enumerate() {
+        point.store(points, first as usize + i);
     }
 }
 
 // A note without a bend, as most are, costs no curve.
+#[tactic(auto, unfolding(curve::specs::Bend::curve_height), using(crate::proofs::Curves::no_curve))]
 pub(crate) fn add_curve(s: &[u8], points: &mut [u32], first: u32, bend: Bend) -> Bent
     ensures points { points.new
         ≡ stores point_words point_stride points.old first (curve_of (bend_in s.now bend)) }
@@ -107,8 +89,9 @@ pub(crate) fn add_curve(s: &[u8], points: &mut [u32], first: u32, bend: Bend) ->
         return STRAIGHT;
     }
     let curve = curve_of(s, bend);
-    add_points(points, first, curve);
-    let count = bend::point_count(curve) as u32;
-    let height = bend::curve_height(curve);
-    Bent { count, height }
+    add_points(points, first, &curve);
+    Bent {
+        count: curve.count() as u32,
+        height: curve.height(),
+    }
 }

@@ -13,14 +13,13 @@ ghost use Rattle.into_rows.specs.Entry.{Sums, Bends, undrawn, playing_of, expres
 
 use crate::members::Company;
 use crate::points::Bent;
-use curve::level::Level;
 use draft::Draft;
-use entries::rows::{set_ottava_end, set_technique, store_row};
+use entries::Entry;
+use entries::rows::{set_ottava_end, set_technique};
 use model::{
-    Dynamic, Expression, Ottava, OttavaMarks, Playing, Row, Span, Technique, TechniqueText, kinds,
+    Dynamic, Expression, Ottava, OttavaMarks, Playing, Row, Span, Technique, TechniqueText,
 };
 use score::{Hammer, KeptCounts, OttavaRun};
-use words::voice;
 use words::voice::VoiceWords;
 
 // ---- hammers and pull-offs
@@ -28,12 +27,7 @@ use words::voice::VoiceWords;
 fn is_marked(text: TechniqueText) -> bool
     ensures { result ≡ marked text }
 {
-    match text {
-        TechniqueText::NoText => false,
-        TechniqueText::HammerMark => true,
-        TechniqueText::PalmMute => false,
-        TechniqueText::LetRing => false,
-    }
+    text == TechniqueText::HammerMark
 }
 
 fn pulls(draft: Draft, company: Company, key: u8) -> bool
@@ -43,11 +37,11 @@ fn pulls(draft: Draft, company: Company, key: u8) -> bool
 }
 
 // A row with the hammer mark turns pull-off when the next row of its voice is no rest and starts on a lower key.
-fn turn_hammer(rows: &mut [u32], hammer: Hammer, draft: Draft, company: Company)
+fn turn_hammer(rows: &mut [u32], hammer: Option<Hammer>, draft: Draft, company: Company)
     ensures { (ms : List Member) (ps : List Point) → Sums ms company →
         rows.new ≡ turn_hammer (words []) hammer (drawn ms ps draft) rows.old }
 {
-    let Hammer::Waits(n, key) = hammer else {
+    let Some(Hammer { row: n, key }) = hammer else {
         return;
     };
     if pulls(draft, company, key) {
@@ -55,14 +49,17 @@ fn turn_hammer(rows: &mut [u32], hammer: Hammer, draft: Draft, company: Company)
     }
 }
 
-pub(crate) fn hammer_after(n: u32, draft: Draft, company: Company) -> Hammer
+pub(crate) fn hammer_after(n: u32, draft: Draft, company: Company) -> Option<Hammer>
     ensures { (ms : List Member) (ps : List Point) → Sums ms company → result ≡ hammer_after n (drawn ms ps draft) }
 {
-    let text = draft.text;
-    if is_marked(text) {
-        return Hammer::Waits(n, company.key);
+    if is_marked(draft.text) {
+        Some(Hammer {
+            row: n,
+            key: company.key,
+        })
+    } else {
+        None
     }
-    Hammer::NoHammer
 }
 
 // ---- ottavas
@@ -70,25 +67,23 @@ pub(crate) fn hammer_after(n: u32, draft: Draft, company: Company) -> Hammer
 fn is_under(draft: Draft) -> bool
     ensures { result ≡ under (undrawn draft) }
 {
-    let ottava = draft.ottava;
-    (kinds::ottava_word(ottava) != 0) & !draft.rest
+    (draft.ottava != Ottava::NoOttava) & !draft.rest
 }
 
-fn same_kind(draft: Draft, run: OttavaRun) -> bool
+fn same_kind(draft: Draft, run: Option<OttavaRun>) -> bool
     ensures { result ≡ same_kind (undrawn draft) run }
 {
-    let ottava = draft.ottava;
     match run {
-        OttavaRun::NoRun => false,
-        OttavaRun::Over(_, kind) => kinds::ottava_word(ottava) == kinds::ottava_word(kind),
+        None => false,
+        Some(OttavaRun { kind, .. }) => draft.ottava == kind,
     }
 }
 
 // A row under the ottava of the row before it carries that on: it does not end there.
-fn turn_run(rows: &mut [u32], run: OttavaRun, draft: Draft)
+fn turn_run(rows: &mut [u32], run: Option<OttavaRun>, draft: Draft)
     ensures { rows.new ≡ turn_run (words []) run (undrawn draft) rows.old }
 {
-    let OttavaRun::Over(n, _) = run else {
+    let Some(OttavaRun { row: n, .. }) = run else {
         return;
     };
     if is_under(draft) & same_kind(draft, run) {
@@ -96,13 +91,15 @@ fn turn_run(rows: &mut [u32], run: OttavaRun, draft: Draft)
     }
 }
 
-fn ottava_marks(draft: Draft, run: OttavaRun) -> OttavaMarks
+fn ottava_marks(draft: Draft, run: Option<OttavaRun>) -> OttavaMarks
     ensures { result ≡ ottava_marks (undrawn draft) run }
 {
     let end = is_under(draft);
     if end & !same_kind(draft, run) {
-        let start = draft.ottava;
-        return OttavaMarks { start, end };
+        return OttavaMarks {
+            start: draft.ottava,
+            end,
+        };
     }
     OttavaMarks {
         start: Ottava::NoOttava,
@@ -111,17 +108,19 @@ fn ottava_marks(draft: Draft, run: OttavaRun) -> OttavaMarks
 }
 
 // A rest of the ottava's kind neither ends nor extends it.
-pub(crate) fn run_after(n: u32, draft: Draft, run: OttavaRun) -> OttavaRun
+pub(crate) fn run_after(n: u32, draft: Draft, run: Option<OttavaRun>) -> Option<OttavaRun>
     ensures { result ≡ run_after n (undrawn draft) run }
 {
-    let ottava = draft.ottava;
     if is_under(draft) {
-        return OttavaRun::Over(n, ottava);
+        Some(OttavaRun {
+            row: n,
+            kind: draft.ottava,
+        })
+    } else if draft.rest & same_kind(draft, run) {
+        run
+    } else {
+        None
     }
-    if draft.rest & same_kind(draft, run) {
-        return run;
-    }
-    OttavaRun::NoRun
 }
 
 // ---- the entry
@@ -129,10 +128,10 @@ pub(crate) fn run_after(n: u32, draft: Draft, run: OttavaRun) -> OttavaRun
 pub(crate) fn span_of(first: u32, count: u32) -> Span
     ensures { result ≡ span_of first count }
 {
-    if count == 0 {
-        return Span { first: 0, count: 0 };
+    Span {
+        first: if count == 0 { 0 } else { first },
+        count,
     }
-    Span { first, count }
 }
 
 // The hammer mark stands in no finished row.
@@ -140,53 +139,45 @@ fn text_left(text: TechniqueText) -> TechniqueText
     ensures { result ≡ text_left text }
 {
     if is_marked(text) {
-        return TechniqueText::NoText;
+        TechniqueText::NoText
+    } else {
+        text
     }
-    text
 }
 
-pub(crate) fn dynamic_at(level: Level) -> Dynamic
+pub(crate) fn dynamic_at(level: Option<u8>) -> Dynamic
     ensures { result ≡ dynamic_at level }
 {
     match level {
-        Level::Absent => Dynamic::NoDynamic,
-        Level::Given(n) => kinds::dynamic_of(kinds::byte_word(n)),
+        None => Dynamic::NoDynamic,
+        Some(n) => Dynamic::from(u32::from(n)),
     }
 }
 
 fn playing_of(draft: Draft, bent: Bent, first: u32) -> Playing
     ensures { result ≡ playing_of (undrawn draft) bent first }
 {
-    let text = draft.text;
-    let technique = draft.technique;
-    let left = text_left(text);
-    let span = span_of(first, bent.count);
-    let height = bent.height;
     Playing {
-        text: left,
-        technique,
-        curve: span,
-        height,
+        text: text_left(draft.text),
+        technique: draft.technique,
+        curve: span_of(first, bent.count),
+        height: bent.height,
     }
 }
 
 fn expression_of(draft: Draft) -> Expression
     ensures { result ≡ expression_of (undrawn draft) }
 {
-    let level = draft.dynamic;
-    let dynamic = dynamic_at(level);
-    let articulations = draft.articulations;
-    let arpeggio = draft.arpeggio;
-    let head = draft.head;
     Expression {
-        dynamic,
-        articulations,
-        arpeggio,
-        head,
+        dynamic: dynamic_at(draft.dynamic),
+        articulations: draft.articulations,
+        arpeggio: draft.arpeggio,
+        head: draft.head,
     }
 }
 
 // The entry of a row whose ottava marks are given.
+#[tactic(auto, unfolding(score::specs::Page::row_entry))]
 fn row_entry(
     draft: Draft,
     company: Company,
@@ -197,27 +188,18 @@ fn row_entry(
     ensures { (ms : List Member) (ps : List Point) → Sums ms company → Bends ps bent →
         result ≡ row_entry (drawn ms ps draft) marks kept }
 {
-    let place = draft.place;
-    let kind = draft.kind;
-    let value = draft.value;
-    let span = span_of(kept.members, company.count);
-    let playing = playing_of(draft, bent, kept.points);
-    let expression = expression_of(draft);
-    let chord = draft.chord;
-    let finger = company.finger;
-    let beat = draft.beat;
     Row {
-        place,
-        kind,
+        place: draft.place,
+        kind: draft.kind,
         rest: draft.rest,
-        value,
-        members: span,
-        playing,
-        expression,
+        value: draft.value,
+        members: span_of(kept.members, company.count),
+        playing: playing_of(draft, bent, kept.points),
+        expression: expression_of(draft),
         ottava: marks,
-        chord,
-        finger,
-        beat,
+        chord: draft.chord,
+        finger: company.finger,
+        beat: draft.beat,
     }
 }
 
@@ -236,9 +218,9 @@ pub(crate) fn add_row(
         (kept.rows * row_stride)
         (row_words (row_entry (drawn ms ps draft) (ottava_marks (drawn ms ps draft) (voice_in voice.now).run) kept)) }
 {
-    let run = voice::run(voice);
-    turn_hammer(rows, voice::hammer(voice), draft, company);
+    let run = voice.run();
+    turn_hammer(rows, voice.hammer(), draft, company);
     turn_run(rows, run, draft);
     let row = row_entry(draft, company, bent, ottava_marks(draft, run), kept);
-    store_row(rows, kept.rows as usize, row);
+    row.store(rows, kept.rows as usize);
 }

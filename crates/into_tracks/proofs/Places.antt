@@ -13,7 +13,6 @@ use Rattle.curve.specs.Level.{forte}
 use Rattle.track.specs.declared.TrackHeader.{TrackHeader}
 use Rattle.model.specs.Kinds.{flag_of}
 use Rattle.words.specs.Words.{voice_place, fret_of, hammer_of, run_of, voice_words, board_words, part_words, board_from, voice_from}
-use Rattle.words.specs.Voices.{voice_in}
 
 -- from a place that is cut at the end, the same words are left
 pub left_from : (t : List ℕ) (m at : ℕ) → at ≡ min m (length t) → take (length t - at) (drop at t) ≡ drop m t
@@ -33,7 +32,7 @@ pub board_from_lem : (at : ℕ) (t : List ℕ) → board_from 0 (drop at t) ≡ 
 unfolding board_from
 board_from_lem at t = simp (get_or-drop, add-zero)
 
-pub board_taken : (t : List ℕ) → board_from 0 (take 11 t) ≡ board_from 0 t
+board_taken : (t : List ℕ) → board_from 0 (take 11 t) ≡ board_from 0 t
 unfolding board_from
 board_taken t =
     rw (
@@ -50,8 +49,11 @@ board_taken t =
       get_or-take 11 t 10 0 (omega arith),
     )
 
+pub board_here : (at : ℕ) (t : List ℕ) → board_from 0 (take 11 (drop at t)) ≡ board_from at t
+board_here at t = board_taken (drop at t) ∙ board_from_lem at t
+
 -- a voice by fifteen words
-pub voice_taken : (t : List ℕ) → voice_from 0 (take 15 t) ≡ voice_from 0 t
+voice_taken : (t : List ℕ) → voice_from 0 (take 15 t) ≡ voice_from 0 t
 unfolding voice_from
 voice_taken t =
     rw (
@@ -77,6 +79,9 @@ pub voice_from_lem : (at : ℕ) (t : List ℕ) → voice_from 0 (drop at t) ≡ 
 unfolding voice_from
 voice_from_lem at t = simp (get_or-drop, add-zero)
 
+pub voice_here : (at : ℕ) (t : List ℕ) → voice_from 0 (take 15 (drop at t)) ≡ voice_from at t
+voice_here at t = voice_taken (drop at t) ∙ voice_from_lem at t
+
 -- ---- words one by one
 
 -- a list of seven, and more after it
@@ -95,7 +100,7 @@ seven d (a ∷ b ∷ c ∷ e ∷ f ∷ g ∷ i ∷ j ∷ l) more h = absurd (ome
 -- ---- a part stored piece by piece
 
 -- words that are all 0 say that there is nothing
-pub no_words_lem : voice_in (replicate 15 0) ≡ no_voice
+pub no_words_lem : voice_from 0 (replicate 15 0) ≡ no_voice
 unfolding voice_from fret_of hammer_of run_of flag_of
 no_words_lem = refl
 

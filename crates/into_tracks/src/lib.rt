@@ -8,7 +8,7 @@ ghost use Rattle.words.specs.Words.{words};
 ghost use Rattle.words.specs.Heads.{staves_of};
 ghost use Rattle.words.specs.Reports.{reports};
 
-use entries::tracks::store_track;
+use entries::Entry;
 use model::{Loss, Tunings};
 use parts::add_part;
 use track::TrackHeader;
@@ -16,16 +16,15 @@ use words::report_if;
 
 pub mod parts; // what is remembered of each track
 
+// Field by field: the entry is the table's (docs/TABLES.md), the header what the file gives.
+#[tactic(auto, unfolding(score::specs::Page::track_entry))]
 pub fn track_entry(track: TrackHeader) -> model::Track
     ensures { result ≡ track_entry track }
 {
-    let name = track.name;
     let strings = track.strings;
     let keys = strings.tunings;
-    let clef = track.clef;
-    let program = track.program;
     model::Track {
-        name,
+        name: track.name,
         tunings: Tunings {
             strings: strings.count,
             first: keys[0],
@@ -39,12 +38,13 @@ pub fn track_entry(track: TrackHeader) -> model::Track
         capo: track.capo,
         percussion: track.percussion,
         tablature: track.tablature,
-        clef,
+        clef: track.clef,
         channel: track.channel,
-        program,
+        program: track.program,
     }
 }
 
+#[tactic(auto, unfolding(score::specs::Losses::track_losses))]
 fn track_losses(losses: [u32; 17], track: TrackHeader) -> [u32; 17]
     ensures { result ≡ reports (track_losses track) losses }
 {
@@ -52,6 +52,7 @@ fn track_losses(losses: [u32; 17], track: TrackHeader) -> [u32; 17]
 }
 
 // Hands back the losses.
+#[tactic(auto, unfolding(score::specs::Page::add_track, words::specs::Reports::reports))]
 pub fn add_track(
     number: u32,
     track: TrackHeader,
@@ -62,7 +63,7 @@ pub fn add_track(
     ensures { staves_of tracks.new parts.new result
         ≡ add_track (words []) number track (staves_of tracks.old parts.old losses) }
 {
-    store_track(tracks, number as usize, track_entry(track));
+    track_entry(track).store(tracks, number as usize);
     add_part(parts, number as usize, track);
     track_losses(losses, track)
 }

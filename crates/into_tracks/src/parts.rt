@@ -10,8 +10,7 @@ ghost use Rattle.words.specs.Voices.{voice_in};
 use model::kinds;
 use score::Fretboard;
 use track::{Strings, TrackHeader};
-use words::voice;
-use words::voice::VoiceWords;
+use words::voice::{NO_VOICE, VoiceWords};
 
 pub const PART_WORDS: usize = 42;
 
@@ -38,27 +37,26 @@ fn place_of(parts: &[u32], track: usize, k: usize) -> usize
     ensures { result ≡ min (track * part_stride + k) (length parts.now) }
 {
     let at = tables::start_of(parts, track, PART_WORDS);
-    if k <= parts.len() - at {
-        return at + k;
-    }
-    parts.len()
+    at.saturating_add(k).min(parts.len())
 }
 
 // The words from word `k` of a part on.
+#[tactic(auto, using(crate::proofs::Places::left_from))]
 fn words_from(parts: &[u32], track: usize, k: usize) -> &[u32]
     ensures { result.now ≡ drop (track * part_stride + k) parts.now }
 {
-    let at = place_of(parts, track, k);
-    &parts[at..]
+    &parts[place_of(parts, track, k)..]
 }
 
+#[tactic(auto, using(crate::proofs::Places::second_voice))]
 fn voice_place(voice: usize) -> usize
     ensures { result ≡ voice_place voice }
 {
     if voice == 0 {
-        return FIRST_VOICE;
+        FIRST_VOICE
+    } else {
+        SECOND_VOICE
     }
-    SECOND_VOICE
 }
 
 // ---- the fretboard and the running dynamic
@@ -69,47 +67,37 @@ fn byte_at(parts: &[u32], track: usize, k: usize) -> u8
     kinds::byte_of(tables::load_field(parts, track, PART_WORDS, k))
 }
 
-fn byte_in(w: &[u32], k: usize) -> u8
-    ensures { result ≡ get_or w.now k 0 % 256 }
-{
-    kinds::byte_of(tables::load(w, k))
-}
-
-fn flag_in(w: &[u32], k: usize) -> bool
-    ensures { result ≡ flag_of (get_or w.now k 0) }
-{
-    kinds::flag_of(tables::load(w, k))
-}
-
+#[tactic(auto, unfolding(words::specs::Words::board_from))]
 fn strings_of(w: &[u32]) -> Strings
     ensures { result ≡ (board_from 0 w.now).strings }
 {
-    let count = byte_in(w, 0);
+    let count = entries::byte_at(w, 0);
     let tunings = [
-        byte_in(w, 1),
-        byte_in(w, 2),
-        byte_in(w, 3),
-        byte_in(w, 4),
-        byte_in(w, 5),
-        byte_in(w, 6),
-        byte_in(w, 7),
+        entries::byte_at(w, 1),
+        entries::byte_at(w, 2),
+        entries::byte_at(w, 3),
+        entries::byte_at(w, 4),
+        entries::byte_at(w, 5),
+        entries::byte_at(w, 6),
+        entries::byte_at(w, 7),
     ];
     Strings { count, tunings }
 }
 
+#[tactic(auto, unfolding(words::specs::Words::board_from))]
 fn board_of(w: &[u32]) -> Fretboard
     ensures { result ≡ board_from 0 w.now }
 {
-    let strings = strings_of(w);
     Fretboard {
-        strings,
-        capo: byte_in(w, 8),
-        percussion: flag_in(w, 9),
-        tablature: flag_in(w, 10),
+        strings: strings_of(w),
+        capo: entries::byte_at(w, 8),
+        percussion: entries::flag_at(w, 9),
+        tablature: entries::flag_at(w, 10),
     }
 }
 
 // Of words that are all there the compiler drops the tests.
+#[tactic(auto, using(crate::proofs::Places::board_from_lem, crate::proofs::Places::board_here))]
 pub fn board_at(parts: &[u32], track: usize) -> Fretboard
     ensures { result ≡ board_from (track * part_stride) parts.now }
 {
@@ -121,38 +109,40 @@ pub fn board_at(parts: &[u32], track: usize) -> Fretboard
 }
 
 // How many strings a track has, without the rest of its fretboard.
+#[tactic(auto, unfolding(words::specs::Words::board_from))]
 pub fn string_count_at(parts: &[u32], track: usize) -> u8
     ensures { result ≡ (board_from (track * part_stride) parts.now).strings.count }
 {
     byte_at(parts, track, STRING_COUNT)
 }
 
+#[tactic(auto, unfolding(words::specs::Words::board_words), using(crate::proofs::Places::seven))]
 fn board_words(x: Fretboard) -> [u32; 11]
     ensures { result ≡ board_words x }
 {
     let strings = x.strings;
     let tunings = strings.tunings;
     [
-        kinds::byte_word(strings.count),
-        kinds::byte_word(tunings[0]),
-        kinds::byte_word(tunings[1]),
-        kinds::byte_word(tunings[2]),
-        kinds::byte_word(tunings[3]),
-        kinds::byte_word(tunings[4]),
-        kinds::byte_word(tunings[5]),
-        kinds::byte_word(tunings[6]),
-        kinds::byte_word(x.capo),
+        u32::from(strings.count),
+        u32::from(tunings[0]),
+        u32::from(tunings[1]),
+        u32::from(tunings[2]),
+        u32::from(tunings[3]),
+        u32::from(tunings[4]),
+        u32::from(tunings[5]),
+        u32::from(tunings[6]),
+        u32::from(x.capo),
         kinds::flag_word(x.percussion),
         kinds::flag_word(x.tablature),
     ]
 }
 
+#[tactic(auto, using(tables::proofs::Laws::sets_start))]
 fn put_board(parts: &mut [u32], track: usize, x: Fretboard)
     ensures { parts.new ≡ sets parts.old (track * part_stride) (board_words x) }
 {
-    let words = board_words(x);
     let at = place_of(parts, track, 0);
-    tables::store_words(parts, at, &words);
+    tables::store_words(parts, at, &board_words(x));
 }
 
 pub fn running_at(parts: &[u32], track: usize) -> u8
@@ -164,33 +154,37 @@ pub fn running_at(parts: &[u32], track: usize) -> u8
 pub fn put_running(parts: &mut [u32], track: usize, running: u8)
     ensures { parts.new ≡ set parts.old (track * part_stride + running_place) running }
 {
-    tables::store_field(parts, track, PART_WORDS, RUNNING, kinds::byte_word(running));
+    tables::store_field(parts, track, PART_WORDS, RUNNING, u32::from(running));
 }
 
 // ---- voices
 
+#[tactic(auto, unfolding(words::specs::Words::voice_from))]
 fn voice_of(w: &[u32]) -> VoiceWords
-    ensures { voice_in result ≡ voice_in w.now }
+    ensures { voice_in result ≡ voice_from 0 w.now }
 {
-    [
-        tables::load(w, 0),
-        tables::load(w, 1),
-        tables::load(w, 2),
-        tables::load(w, 3),
-        tables::load(w, 4),
-        tables::load(w, 5),
-        tables::load(w, 6),
-        tables::load(w, 7),
-        tables::load(w, 8),
-        tables::load(w, 9),
-        tables::load(w, 10),
-        tables::load(w, 11),
-        tables::load(w, 12),
-        tables::load(w, 13),
-        tables::load(w, 14),
-    ]
+    VoiceWords {
+        words: [
+            tables::load(w, 0),
+            tables::load(w, 1),
+            tables::load(w, 2),
+            tables::load(w, 3),
+            tables::load(w, 4),
+            tables::load(w, 5),
+            tables::load(w, 6),
+            tables::load(w, 7),
+            tables::load(w, 8),
+            tables::load(w, 9),
+            tables::load(w, 10),
+            tables::load(w, 11),
+            tables::load(w, 12),
+            tables::load(w, 13),
+            tables::load(w, 14),
+        ],
+    }
 }
 
+#[tactic(auto, using(crate::proofs::Places::voice_from_lem, crate::proofs::Places::voice_here))]
 pub fn voice_at(parts: &[u32], track: usize, voice: usize) -> VoiceWords
     ensures { voice_in result ≡ voice_from (track * part_stride + voice_place voice) parts.now }
 {
@@ -201,29 +195,28 @@ pub fn voice_at(parts: &[u32], track: usize, voice: usize) -> VoiceWords
     voice_of(w)
 }
 
+#[tactic(auto, using(tables::proofs::Laws::sets_start))]
 pub fn put_voice(parts: &mut [u32], track: usize, voice: usize, w: &VoiceWords)
     ensures { parts.new
         ≡ sets parts.old (track * part_stride + voice_place voice) (voice_words (voice_in w.now)) }
 {
-    let words = voice::kept_words(w);
     let at = place_of(parts, track, voice_place(voice));
-    tables::store_words(parts, at, &words);
+    tables::store_words(parts, at, &w.kept());
 }
 
 // A part as it is before its first beat.
+#[tactic(auto, using(crate::proofs::Places::no_words_lem, crate::proofs::Places::part_shown))]
 pub fn add_part(parts: &mut [u32], number: usize, track: TrackHeader)
     ensures { parts.new ≡ sets parts.old (number * part_stride) (part_words (part_of track)) }
 {
-    let strings = track.strings;
     let board = Fretboard {
-        strings,
+        strings: track.strings,
         capo: track.capo,
         percussion: track.percussion,
         tablature: track.tablature,
     };
     put_board(parts, number, board);
     put_running(parts, number, FORTE);
-    let none = voice::NO_VOICE;
-    put_voice(parts, number, 0, &none);
-    put_voice(parts, number, 1, &none);
+    put_voice(parts, number, 0, &NO_VOICE);
+    put_voice(parts, number, 1, &NO_VOICE);
 }

@@ -9,23 +9,17 @@ use entries::rows::ROW_WORDS;
 use entries::texts::TEXT_WORDS;
 use entries::tracks::TRACK_WORDS;
 use model::answers;
-use show::form::PAGE;
-use show::input::Input;
 use std::io;
 
 const ROOM: usize = 32768;
 
-fn list(rt: &(impl io::Input + Print + Eprint), input: &mut [u8; ROOM]) -> io::Result<()> {
-    let Input::Bytes(n) = show::input::read(&mut rt.reader(), input) else {
-        return rt.eprintln("listing: standard input could not be read");
-    };
-    let mut bars = [0u32; 64 * BAR_WORDS];
-    let mut tracks = [0u32; 8 * TRACK_WORDS];
-    let mut rows = [0u32; 256 * ROW_WORDS];
-    let mut members = [0u32; 512 * MEMBER_WORDS];
-    let mut points = [0u32; 64 * POINT_WORDS];
-    let mut texts = [0u32; 32 * TEXT_WORDS];
-    let data = bin::text(input, 0, n);
+fn list(rt: &impl Print, data: &[u8]) {
+    let mut bars = [0; 64 * BAR_WORDS];
+    let mut tracks = [0; 8 * TRACK_WORDS];
+    let mut rows = [0; 256 * ROW_WORDS];
+    let mut members = [0; 512 * MEMBER_WORDS];
+    let mut points = [0; 64 * POINT_WORDS];
+    let mut texts = [0; 32 * TEXT_WORDS];
     let answer = reader::read(
         data,
         &mut bars,
@@ -35,32 +29,21 @@ fn list(rt: &(impl io::Input + Print + Eprint), input: &mut [u8; ROOM]) -> io::R
         &mut points,
         &mut texts,
     );
-    let outcome = answer.outcome;
-    let song = answer.song;
+    let outcome = answers::outcome_number(answer.outcome);
+    let used = answer.song.used;
     let kept = answer.counts;
-    let words = [
-        answers::outcome_number(outcome),
-        tables::low(song.used),
-        kept.bars,
-        kept.tracks,
-        kept.rows,
-        kept.members,
-    ];
-    let mut page = [0u8; PAGE];
-    let s = show::entries(
-        rt,
-        &mut page,
-        show::PRINTED,
-        b"#0 #1 #2 #3 #4 #5\n",
-        &words,
-        6,
-        1,
+    // a line that cannot be written is left out
+    let _ = println!(rt;
+        "{outcome} {used} {} {} {} {}",
+        kept.bars, kept.tracks, kept.rows, kept.members
     );
-    show::flush(rt, &page, s);
-    Ok(())
 }
 
 fn main(rt: HostRuntime) -> io::Result<()> {
-    let mut input = [0u8; ROOM];
-    list(&rt, &mut input)
+    let mut input = [0; ROOM];
+    let Ok(data) = show::input::read(&mut rt.reader(), &mut input) else {
+        return rt.eprintln("listing: standard input could not be read");
+    };
+    list(&rt, data);
+    Ok(())
 }

@@ -12,16 +12,13 @@ pub struct VoiceState {
 }
 
 // By value. A string past the seventh is none that is remembered: the memory stays as it was.
-pub fn with_fret(state: VoiceState, string: usize, fret: u8) -> VoiceState
+pub fn with_fret(mut state: VoiceState, string: usize, fret: u8) -> VoiceState
     ensures { result ≡ changed state string fret }
 {
-    if string < 7 {
-        let mut frets = state.frets;
-        frets[string] = fret as u32 + 1;
-        VoiceState { frets: frets }
-    } else {
-        state
+    if string < state.frets.len() {
+        state.frets[string] = u32::from(fret) + 1;
     }
+    state
 }
 
 // The memory that is lent changes where it stands.
@@ -32,10 +29,9 @@ pub fn remember(state: &mut VoiceState, string: usize, fret: u8)
 }
 
 // Lends a memory of its own: neither parameter nor result is a reference.
-pub fn remembered(state: VoiceState, string: usize, fret: u8) -> VoiceState
+pub fn remembered(mut state: VoiceState, string: usize, fret: u8) -> VoiceState
     ensures { result ≡ changed state string fret }
 {
-    let mut lent = state;
-    remember(&mut lent, string, fret);
-    lent
+    remember(&mut state, string, fret);
+    state
 }

@@ -1,4 +1,5 @@
 -- What is stored of a kind is loaded again. Laws only.
+use Rattle.std.specs.Prelude.{None, Option, Some}
 use Prim.Native.Nat.{ℕ, ◌+◌, ◌-◌, ◌%◌, ◌<◌}
 use mathlib.Core.Path.{◌≡◌, refl, ap}
 use mathlib.Core.Bool.{Bool, true, false}
@@ -38,20 +39,8 @@ use Rattle.model.specs.declared.Finger.{Finger}
 use Rattle.model.specs.declared.Finger.TheVariants.{NoFinger, Thumb, Index, Middle, Ring, Little}
 use Rattle.model.specs.declared.Key.{Key}
 use Rattle.model.specs.declared.Key.TheVariants.{NoKey, Fifths}
-use Rattle.model.specs.declared.Ending.{Ending}
-use Rattle.model.specs.declared.Ending.TheVariants.{NoEnding, Nth}
-use Rattle.model.specs.declared.Passes.{Passes}
-use Rattle.model.specs.declared.Passes.TheVariants.{NoPasses, Mask}
-use Rattle.model.specs.declared.Tempo.{Tempo}
-use Rattle.model.specs.declared.Tempo.TheVariants.{NoTempo, Bpm}
-use Rattle.model.specs.declared.Program.{Program}
-use Rattle.model.specs.declared.Program.TheVariants.{NoProgram, Midi}
 use Rattle.model.specs.declared.Tuplet.{Tuplet}
-use Rattle.model.specs.declared.Tuplet.TheVariants.{NoTuplet, Ratio}
 use Rattle.model.specs.declared.TabPosition.{TabPosition}
-use Rattle.model.specs.declared.TabPosition.TheVariants.{OffTablature, Fretted}
-use Rattle.model.specs.declared.Height.{Height}
-use Rattle.model.specs.declared.Height.TheVariants.{NoHeight, Peak}
 use Rattle.model.specs.declared.Mode.TheVariants.{Major, Minor}
 use Rattle.model.specs.declared.Cents.{Cents}
 use Rattle.model.proofs.Fits.{KeyFits, EndingFits, PassesFit, TempoFits, ProgramFits, TupletFits, HeightFits, PositionFits}
@@ -205,40 +194,40 @@ key_back NoKey f = refl
 key_back (Fifths z Major) f = ap (λ (y : ℤ). Fifths y Major) (signed_back8 z f)
 key_back (Fifths z Minor) f = ap (λ (y : ℤ). Fifths y Minor) (signed_back8 z f)
 
-pub ending_back : (x : Ending) → EndingFits x → ending_of (ending_word x) ≡ x
+pub ending_back : (x : Option ℕ) → EndingFits x → ending_of (ending_word x) ≡ x
 unfolding ending_of
-ending_back NoEnding f = refl
-ending_back (Nth n) f = rw (ne_eqb n 0 (omega arith), mod-eq_of_lt f.1)
+ending_back None f = refl
+ending_back (Some n) f = rw (ne_eqb n 0 (omega arith), mod-eq_of_lt f.1)
 
-pub passes_back : (x : Passes) → PassesFit x → passes_of (passes_word x) ≡ x
+pub passes_back : (x : Option ℕ) → PassesFit x → passes_of (passes_word x) ≡ x
 unfolding passes_of
-passes_back NoPasses f = refl
-passes_back (Mask m) f = rw (ne_eqb m 0 (omega arith), mod-eq_of_lt f.1)
+passes_back None f = refl
+passes_back (Some m) f = rw (ne_eqb m 0 (omega arith), mod-eq_of_lt f.1)
 
-pub tempo_back : (x : Tempo) → TempoFits x → tempo_of (tempo_word x) ≡ x
+pub tempo_back : (x : Option ℕ) → TempoFits x → tempo_of (tempo_word x) ≡ x
 unfolding tempo_of
-tempo_back NoTempo f = refl
-tempo_back (Bpm n) f = rw (ne_eqb n 0 (omega arith), mod-eq_of_lt f.1)
+tempo_back None f = refl
+tempo_back (Some n) f = rw (ne_eqb n 0 (omega arith), mod-eq_of_lt f.1)
 
-pub program_back : (x : Program) → ProgramFits x → program_of (program_word x) ≡ x
+pub program_back : (x : Option ℕ) → ProgramFits x → program_of (program_word x) ≡ x
 unfolding program_of
-program_back NoProgram f = refl
-program_back (Midi n) f = let e : (n + 1 - 1) % 256 ≡ n = omega arith in rw (ne_eqb (n + 1) 0 (omega arith), e)
+program_back None f = refl
+program_back (Some n) f = let e : (n + 1 - 1) % 256 ≡ n = omega arith in rw (ne_eqb (n + 1) 0 (omega arith), e)
 
-pub tuplet_back : (x : Tuplet) → TupletFits x → tuplet_of (actual_word x) (normal_word x) ≡ x
+pub tuplet_back : (x : Option Tuplet) → TupletFits x → tuplet_of (actual_word x) (normal_word x) ≡ x
 unfolding tuplet_of
-tuplet_back NoTuplet f = refl
-tuplet_back (Ratio a n) f = rw (ne_eqb a 0 (omega arith), mod-eq_of_lt f.1, mod-eq_of_lt f.2)
+tuplet_back None f = refl
+tuplet_back (Some ratio) f = rw (ne_eqb ratio.actual 0 (omega arith), mod-eq_of_lt f.1, mod-eq_of_lt f.2)
 
-pub position_back : (x : TabPosition) → PositionFits x → position_of (string_word x) (fret_word x) ≡ x
+pub position_back : (x : Option TabPosition) → PositionFits x → position_of (string_word x) (fret_word x) ≡ x
 unfolding position_of
-position_back OffTablature f = refl
-position_back (Fretted s n) f = rw (ne_eqb s 0 (omega arith), mod-eq_of_lt f.1, mod-eq_of_lt f.2)
+position_back None f = refl
+position_back (Some at) f = rw (ne_eqb at.string 0 (omega arith), mod-eq_of_lt f.1, mod-eq_of_lt f.2)
 
 pub cents_back : (x : Cents) → SFits w16 x.0 → cents_of (cents_word x) ≡ x
 cents_back x f = rw (signed_back16 x.0 f)
 
-pub height_back : (x : Height) → HeightFits x → height_of (peak_word x) (height_word x) ≡ x
+pub height_back : (x : Option Cents) → HeightFits x → height_of (peak_word x) (height_word x) ≡ x
 unfolding height_of
-height_back NoHeight f = refl
-height_back (Peak c) f = ap Peak (cents_back c f)
+height_back None f = refl
+height_back (Some c) f = ap Some (cents_back c f)

@@ -1,4 +1,5 @@
 -- The articulations that a row holds are the list of those added. Laws only.
+use Rattle.std.specs.Prelude.{None, Some}
 use Prim.Native.Nat.{ℕ, zero, suc, ◌+◌, ◌*◌, ◌-◌, ◌/◌, ◌%◌, ◌≤◌, ◌<◌}
 use mathlib.Core.Path.{◌≡◌, refl, ◌∙◌}
 use mathlib.Core.Bool.{Bool, true, false}
@@ -12,7 +13,6 @@ use lib.Dec.{eqb}
 use Rattle.format.specs.Text.{pick}
 use Rattle.model.specs.declared.Articulation.{Articulation}
 use Rattle.model.specs.declared.Articulation.TheVariants.{Marcato, Accent, Vibrato, Staccato, Harmonic, Trill, Tremolo1, Tremolo2, Tremolo3, UpBow, DownBow, Tap, Falloff, Doit, Scoop, Plop}
-use Rattle.model.specs.declared.MarkAt.TheVariants.{ThisMark, NoMark}
 use Rattle.model.specs.Kinds.{articulation_word}
 use Rattle.model.proofs.KindLaws.{articulation_back}
 use Rattle.model.specs.Marks.{holds, add_once, hex, packed, byte_counted, has_digit, with_digit, add_mark, shifted, mark_at}
@@ -100,11 +100,11 @@ nth_digit (x ∷ l) (suc k) d z h =
     rw e (nth_digit l k (d * 16 + articulation_word x) z (omega arith))
 
 -- what a row holds of a list gives the list back, one by one
-pub mark_packed : (l : List Articulation) (k : ℕ) (z : Articulation) → k < length l → mark_at (packed l) k ≡ ThisMark (get_or l k z)
+pub mark_packed : (l : List Articulation) (k : ℕ) (z : Articulation) → k < length l → mark_at (packed l) k ≡ Some (get_or l k z)
 unfolding mark_at
 mark_packed l k z h = rw (lt-ltb k (length l) h, nth_digit l k 0 z h, articulation_back)
 
-pub mark_past : (l : List Articulation) (k : ℕ) → length l ≤ k → mark_at (packed l) k ≡ NoMark
+pub mark_past : (l : List Articulation) (k : ℕ) → length l ≤ k → mark_at (packed l) k ≡ None
 unfolding mark_at
 mark_past l k h = rw (le-ltb k (length l) h)
 

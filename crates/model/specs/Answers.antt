@@ -1,11 +1,9 @@
 -- The answer of a reading: for every case document 01's number and values. Fields that a refusal doesn't name are 0 or absent.
-use Rattle.std.specs.Prelude.{ℕ, List, [], ◌∷◌, ℤ, pos, get_or, replicate}
+use Rattle.std.specs.Prelude.{ℕ, List, [], ◌∷◌, ℤ, pos, get_or, replicate, None}
 use Rattle.format.specs.declared.Range.{Range}
 use Rattle.format.specs.Count.{count_number}
 use Rattle.model.specs.declared.Outcome.{Outcome}
 use Rattle.model.specs.declared.Outcome.TheVariants.{Read, Truncated, Version, Count, Empty, TooLong, NoRoom}
-use Rattle.model.specs.declared.LyricTrack.TheVariants.{NoLyricTrack}
-use Rattle.model.specs.declared.Tempo.TheVariants.{NoTempo}
 use Rattle.model.specs.declared.LyricLine.{LyricLine}
 use Rattle.model.specs.declared.Lyrics.{Lyrics}
 use Rattle.model.specs.declared.Song.{Song}
@@ -48,7 +46,7 @@ abbrev pub no_line : LyricLine
 no_line = record { start = 0; text = no_range }
 
 abbrev pub no_lyrics : Lyrics
-no_lyrics = record { track = NoLyricTrack; lines = replicate 5 no_line }
+no_lyrics = record { track = None; lines = replicate 5 no_line }
 
 unfoldable pub no_song : Song
 no_song = record {
@@ -60,7 +58,7 @@ no_song = record {
   lyricist = no_range;
   copyright = no_range;
   lyrics = no_lyrics;
-  tempo = NoTempo;
+  tempo = None;
 }
 
 -- ---- losses: seventeen counts in byte order of their codes

@@ -1,25 +1,13 @@
 -- The words of the small kinds. A kind's list has its cases in the order of their words, from 0; any other word stands for the case
 -- that is named last in its `..Of`.
-use Rattle.std.specs.Prelude.{ℕ, ◌+◌, ◌-◌, ◌%◌, Bool, true, false, not, List, [], ◌∷◌, get_or, eqb, leb, ℤ, pos, negsuc}
+use Rattle.std.specs.Prelude.{ℕ, ◌+◌, ◌-◌, ◌%◌, Bool, true, false, not, List, [], ◌∷◌, get_or, eqb, leb, ℤ, pos, negsuc, None, Option, Some}
 use Rattle.format.specs.Text.{pick}
 use Rattle.bin.specs.Signed.{signed, unsigned}
 use Rattle.model.specs.declared.Mode.TheVariants.{Major, Minor}
 use Rattle.model.specs.declared.Key.{Key}
 use Rattle.model.specs.declared.Key.TheVariants.{NoKey, Fifths}
-use Rattle.model.specs.declared.Ending.{Ending}
-use Rattle.model.specs.declared.Ending.TheVariants.{NoEnding, Nth}
-use Rattle.model.specs.declared.Passes.{Passes}
-use Rattle.model.specs.declared.Passes.TheVariants.{NoPasses, Mask}
-use Rattle.model.specs.declared.Tempo.{Tempo}
-use Rattle.model.specs.declared.Tempo.TheVariants.{NoTempo, Bpm}
-use Rattle.model.specs.declared.Program.{Program}
-use Rattle.model.specs.declared.Program.TheVariants.{NoProgram, Midi}
 use Rattle.model.specs.declared.Tuplet.{Tuplet}
-use Rattle.model.specs.declared.Tuplet.TheVariants.{NoTuplet, Ratio}
 use Rattle.model.specs.declared.TabPosition.{TabPosition}
-use Rattle.model.specs.declared.TabPosition.TheVariants.{OffTablature, Fretted}
-use Rattle.model.specs.declared.Height.{Height}
-use Rattle.model.specs.declared.Height.TheVariants.{NoHeight, Peak}
 use Rattle.model.specs.declared.Cents.{Cents}
 use Rattle.model.specs.declared.PerMille.{PerMille}
 use Rattle.model.specs.declared.EndingPlace.{EndingPlace}
@@ -268,64 +256,64 @@ unfoldable pub key_of : ℕ → ℕ → Key
 key_of m w = pick (eqb m 1) (Fifths (signed 128 (w % 256)) Major) (pick (eqb m 2) (Fifths (signed 128 (w % 256)) Minor) NoKey)
 
 -- an ending's number, 0 for none
-abbrev pub ending_word : Ending → ℕ
-ending_word NoEnding = 0
-ending_word (Nth n) = n
+abbrev pub ending_word : Option ℕ → ℕ
+ending_word None = 0
+ending_word (Some n) = n
 
-unfoldable pub ending_of : ℕ → Ending
-ending_of w = pick (eqb w 0) NoEnding (Nth (w % 256))
+unfoldable pub ending_of : ℕ → Option ℕ
+ending_of w = pick (eqb w 0) None (Some (w % 256))
 
 -- an ending's mask of passes, 0 for none
-abbrev pub passes_word : Passes → ℕ
-passes_word NoPasses = 0
-passes_word (Mask m) = m
+abbrev pub passes_word : Option ℕ → ℕ
+passes_word None = 0
+passes_word (Some m) = m
 
-unfoldable pub passes_of : ℕ → Passes
-passes_of w = pick (eqb w 0) NoPasses (Mask (w % 256))
+unfoldable pub passes_of : ℕ → Option ℕ
+passes_of w = pick (eqb w 0) None (Some (w % 256))
 
 -- a tempo, 0 for none
-abbrev pub tempo_word : Tempo → ℕ
-tempo_word NoTempo = 0
-tempo_word (Bpm n) = n
+abbrev pub tempo_word : Option ℕ → ℕ
+tempo_word None = 0
+tempo_word (Some n) = n
 
-unfoldable pub tempo_of : ℕ → Tempo
-tempo_of w = pick (eqb w 0) NoTempo (Bpm (w % 65536))
+unfoldable pub tempo_of : ℕ → Option ℕ
+tempo_of w = pick (eqb w 0) None (Some (w % 65536))
 
 -- a number of the file in 1..999 is a tempo, any other is none
-unfoldable pub tempo_from : ℕ → Tempo
-tempo_from n = pick (leb 1 n) (pick (leb n 999) (Bpm n) NoTempo) NoTempo
+unfoldable pub tempo_from : ℕ → Option ℕ
+tempo_from n = pick (leb 1 n) (pick (leb n 999) (Some n) None) None
 
 -- a program and one, 0 for none
-abbrev pub program_word : Program → ℕ
-program_word NoProgram = 0
-program_word (Midi n) = n + 1
+abbrev pub program_word : Option ℕ → ℕ
+program_word None = 0
+program_word (Some n) = n + 1
 
-unfoldable pub program_of : ℕ → Program
-program_of w = pick (eqb w 0) NoProgram (Midi ((w - 1) % 256))
+unfoldable pub program_of : ℕ → Option ℕ
+program_of w = pick (eqb w 0) None (Some ((w - 1) % 256))
 
 -- a tuplet is two words: so many notes, 0 for no tuplet; in the time of so many
-abbrev pub actual_word : Tuplet → ℕ
-actual_word NoTuplet = 0
-actual_word (Ratio a n) = a
+abbrev pub actual_word : Option Tuplet → ℕ
+actual_word None = 0
+actual_word (Some ratio) = ratio.actual
 
-abbrev pub normal_word : Tuplet → ℕ
-normal_word NoTuplet = 0
-normal_word (Ratio a n) = n
+abbrev pub normal_word : Option Tuplet → ℕ
+normal_word None = 0
+normal_word (Some ratio) = ratio.normal
 
-unfoldable pub tuplet_of : ℕ → ℕ → Tuplet
-tuplet_of a n = pick (eqb a 0) NoTuplet (Ratio (a % 256) (n % 256))
+unfoldable pub tuplet_of : ℕ → ℕ → Option Tuplet
+tuplet_of a n = pick (eqb a 0) None (Some (record { actual = a % 256; normal = n % 256 }))
 
 -- a position is two words: the string, 0 off tablature; and the fret
-abbrev pub string_word : TabPosition → ℕ
-string_word OffTablature = 0
-string_word (Fretted s f) = s
+abbrev pub string_word : Option TabPosition → ℕ
+string_word None = 0
+string_word (Some at) = at.string
 
-abbrev pub fret_word : TabPosition → ℕ
-fret_word OffTablature = 0
-fret_word (Fretted s f) = f
+abbrev pub fret_word : Option TabPosition → ℕ
+fret_word None = 0
+fret_word (Some at) = at.fret
 
-unfoldable pub position_of : ℕ → ℕ → TabPosition
-position_of s f = pick (eqb s 0) OffTablature (Fretted (s % 256) (f % 256))
+unfoldable pub position_of : ℕ → ℕ → Option TabPosition
+position_of s f = pick (eqb s 0) None (Some (record { string = s % 256; fret = f % 256 }))
 
 -- cents, two's complement of 32 bits; the low 16 bits count
 abbrev pub cents_word : Cents → ℕ
@@ -338,16 +326,16 @@ abbrev pub per_mille_of : ℕ → PerMille
 per_mille_of w = record { 0 = w % 65536 }
 
 -- a height is two words: whether there is one; and its cents
-abbrev pub peak_word : Height → ℕ
-peak_word NoHeight = 0
-peak_word (Peak c) = 1
+abbrev pub peak_word : Option Cents → ℕ
+peak_word None = 0
+peak_word (Some c) = 1
 
-abbrev pub height_word : Height → ℕ
-height_word NoHeight = 0
-height_word (Peak c) = cents_word c
+abbrev pub height_word : Option Cents → ℕ
+height_word None = 0
+height_word (Some c) = cents_word c
 
-unfoldable pub height_of : ℕ → ℕ → Height
-height_of p w = pick (eqb p 0) NoHeight (Peak (cents_of w))
+unfoldable pub height_of : ℕ → ℕ → Option Cents
+height_of p w = pick (eqb p 0) None (Some (cents_of w))
 
 -- ---- a duration's own codes are -2, -1, 1, 2, 3 and 4; every other code is a quarter (the lists have 0 to 4, and -1 and -2)
 abbrev pub duration_code : ℤ → Duration

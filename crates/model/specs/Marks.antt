@@ -1,12 +1,10 @@
 -- Articulations in the order added, none twice: a list, and the hexadecimal number that a row holds of it.
-use Rattle.std.specs.Prelude.{ℕ, zero, suc, ◌+◌, ◌*◌, ◌-◌, ◌/◌, ◌%◌, Bool, true, false, List, [], ◌∷◌, ◌++◌, length, eqb, ltb}
+use Rattle.std.specs.Prelude.{ℕ, zero, suc, ◌+◌, ◌*◌, ◌-◌, ◌/◌, ◌%◌, Bool, true, false, List, [], ◌∷◌, ◌++◌, length, eqb, ltb, None, Option, Some}
 use Rattle.format.specs.Text.{pick}
 use Rattle.model.specs.Kinds.{articulation_word, articulation_of}
 use Rattle.model.specs.declared.Articulation.{Articulation}
 use Rattle.model.specs.declared.Articulations.{Articulations}
-use Rattle.model.specs.declared.MarkAt.{MarkAt}
 use Rattle.model.specs.declared.marks.Marks.{Marks}
-use Rattle.model.specs.declared.MarkAt.TheVariants.{ThisMark, NoMark}
 
 -- whether the articulation of a digit is among them
 abbrev pub holds : ℕ → List Articulation → Bool
@@ -55,5 +53,5 @@ abbrev pub shifted : ℕ → ℕ → ℕ
 shifted zero d = d
 shifted (suc n) d = shifted n (d / 16)
 
-unfoldable pub mark_at : Articulations → ℕ → MarkAt
-mark_at m k = pick (ltb k m.count) (ThisMark (articulation_of (shifted (m.count - 1 - k) m.digits % 16))) NoMark
+unfoldable pub mark_at : Articulations → ℕ → Option Articulation
+mark_at m k = pick (ltb k m.count) (Some (articulation_of (shifted (m.count - 1 - k) m.digits % 16))) None

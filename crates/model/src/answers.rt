@@ -2,24 +2,18 @@
 ghost use Rattle.std.specs.Prelude.{◌≡◌, get_or, set};
 ghost use Rattle.tables.specs.Table.{one_more};
 ghost use Rattle.format.specs.Count.{count_number};
-ghost use Rattle.model.specs.Answers.{numbers_of, no_sizes, no_losses, no_lyrics, no_song, read_answer, refusal, no_room_answer, loss_number, loss_words, losses_of};
+ghost use Rattle.model.specs.Answers.{numbers_of, no_lyrics, no_song, read_answer, refusal, no_room_answer, loss_number, loss_words, losses_of};
 
-use crate::{Answer, Loss, Losses, LyricLine, LyricTrack, Lyrics, Outcome, Sizes, Song, Tempo};
-use format::{Counted, NO_RANGE};
+use crate::{Answer, Loss, Losses, Lyrics, Outcome, Sizes, Song};
+use format::Counted;
 
 pub fn count_number(x: Counted) -> u32
     ensures { result ≡ count_number x }
 {
-    match x {
-        Counted::NoticeLines => 1,
-        Counted::Bars => 2,
-        Counted::Tracks => 3,
-        Counted::Strings => 4,
-        Counted::Beats => 5,
-        Counted::Points => 6,
-    }
+    x as u32 + 1
 }
 
+// Four functions over the same cases, since these are the words that C gets; 0 where a case has none.
 pub fn outcome_number(x: Outcome) -> u32
     ensures { result ≡ (numbers_of x).number }
 {
@@ -38,13 +32,8 @@ pub fn outcome_which(x: Outcome) -> u32
     ensures { result ≡ (numbers_of x).which }
 {
     match x {
-        Outcome::Read => 0,
-        Outcome::Truncated => 0,
-        Outcome::Version => 0,
-        Outcome::Count(kind, _, _) => count_number(kind),
-        Outcome::Empty => 0,
-        Outcome::TooLong => 0,
-        Outcome::NoRoom => 0,
+        Outcome::Count(which, _, _) => count_number(which),
+        _ => 0,
     }
 }
 
@@ -52,13 +41,8 @@ pub fn outcome_value(x: Outcome) -> i32
     ensures { result ≡ (numbers_of x).value }
 {
     match x {
-        Outcome::Read => 0,
-        Outcome::Truncated => 0,
-        Outcome::Version => 0,
         Outcome::Count(_, value, _) => value,
-        Outcome::Empty => 0,
-        Outcome::TooLong => 0,
-        Outcome::NoRoom => 0,
+        _ => 0,
     }
 }
 
@@ -66,66 +50,16 @@ pub fn outcome_offset(x: Outcome) -> usize
     ensures { result ≡ (numbers_of x).offset }
 {
     match x {
-        Outcome::Read => 0,
-        Outcome::Truncated => 0,
-        Outcome::Version => 0,
         Outcome::Count(_, _, offset) => offset,
-        Outcome::Empty => 0,
-        Outcome::TooLong => 0,
-        Outcome::NoRoom => 0,
+        _ => 0,
     }
-}
-
-fn no_sizes() -> Sizes
-    ensures { result ≡ no_sizes }
-{
-    Sizes {
-        bars: 0,
-        tracks: 0,
-        rows: 0,
-        members: 0,
-        points: 0,
-        texts: 0,
-    }
-}
-
-fn no_losses() -> Losses
-    ensures { result ≡ no_losses }
-{
-    losses_of(&[0; 17])
 }
 
 // No lyric track, and five empty lines from the start.
 pub fn no_lyrics() -> Lyrics
     ensures { result ≡ no_lyrics }
 {
-    let line = LyricLine {
-        start: 0,
-        text: NO_RANGE,
-    };
-    let lines = [line; 5];
-    Lyrics {
-        track: LyricTrack::NoLyricTrack,
-        lines,
-    }
-}
-
-fn no_song() -> Song
-    ensures { result ≡ no_song }
-{
-    let nothing = NO_RANGE;
-    let lyrics = no_lyrics();
-    Song {
-        used: 0,
-        version: 0,
-        title: nothing,
-        subtitle: nothing,
-        composer: nothing,
-        lyricist: nothing,
-        copyright: nothing,
-        lyrics,
-        tempo: Tempo::NoTempo,
-    }
+    Lyrics::default()
 }
 
 pub fn read_answer(song: Song, counts: Sizes, rooms: Sizes, losses: Losses) -> Answer
@@ -140,19 +74,23 @@ pub fn read_answer(song: Song, counts: Sizes, rooms: Sizes, losses: Losses) -> A
     }
 }
 
+#[tactic(auto, unfolding(crate::specs::Answers::no_song))]
+fn no_song() -> Song
+    ensures { result ≡ no_song }
+{
+    Song::default()
+}
+
 // A refusal with the values that its case names and no others.
 pub fn refused(outcome: Outcome) -> Answer
     ensures { result ≡ refusal outcome }
 {
-    let song = no_song();
-    let sizes = no_sizes();
-    let losses = no_losses();
     Answer {
         outcome,
-        song,
-        counts: sizes,
-        rooms: sizes,
-        losses,
+        song: no_song(),
+        counts: Sizes::default(),
+        rooms: Sizes::default(),
+        losses: Losses::default(),
     }
 }
 
@@ -160,15 +98,9 @@ pub fn refused(outcome: Outcome) -> Answer
 pub fn no_room(rooms: Sizes) -> Answer
     ensures { result ≡ no_room_answer rooms }
 {
-    let song = no_song();
-    let counts = no_sizes();
-    let losses = no_losses();
     Answer {
-        outcome: Outcome::NoRoom,
-        song,
-        counts,
         rooms,
-        losses,
+        ..refused(Outcome::NoRoom)
     }
 }
 
@@ -179,28 +111,10 @@ pub const LOSS_KINDS: usize = 17;
 pub fn loss_number(x: Loss) -> usize
     ensures { result ≡ loss_number x }
 {
-    match x {
-        Loss::DrumKit => 0,
-        Loss::HarmonicType => 1,
-        Loss::LetRingWithPalmMute => 2,
-        Loss::OnBeatGrace => 3,
-        Loss::RepeatCount => 4,
-        Loss::TripletFeel => 5,
-        Loss::UnsupportedChordDiagram => 6,
-        Loss::UnsupportedDirection => 7,
-        Loss::UnsupportedFingering => 8,
-        Loss::UnsupportedMixChange => 9,
-        Loss::UnsupportedRasgueado => 10,
-        Loss::UnsupportedRightHandFingering => 11,
-        Loss::UnsupportedSlideType => 12,
-        Loss::UnsupportedTapping => 13,
-        Loss::UnsupportedVolumeSwell => 14,
-        Loss::UnsupportedWah => 15,
-        Loss::UnsupportedWhammy => 16,
-    }
+    x as usize
 }
 
-// One more report, in the slice that counts them.
+// One more report, in the slice that counts them. into_losses has its own, which stores whether there is a loss or not.
 pub fn add_loss(counts: &mut [u32], x: Loss)
     ensures { counts.new
         ≡ set counts.old (loss_number x) (one_more (get_or counts.old (loss_number x) 0)) }
@@ -210,6 +124,7 @@ pub fn add_loss(counts: &mut [u32], x: Loss)
     tables::store(counts, n, more);
 }
 
+// Field by field, here and below: there is no loop over the names of a struct.
 pub fn losses_of(counts: &[u32]) -> Losses
     ensures { result ≡ losses_of counts.now }
 {

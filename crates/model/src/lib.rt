@@ -1,49 +1,37 @@
 // What a page engine reads: the entries of the six lent tables and the answer of a reading, as values.
-// What may be absent is a case of its own. docs/TABLES.md has the tables word by word.
+// What may be absent is an Option, but for kinds that have a case for none among their words. docs/TABLES.md has the tables word by word.
 #![tactic(auto)]
 
 use format::{Counted, Range};
 
 pub mod answers; // the answer of a reading, case by case; losses
+mod durations; // codes and lengths of durations
 pub mod kinds; // the words of the small kinds
 pub mod marks; // articulations in the order added
 
 // ---- bars
 
-#[derive(Clone, Copy)]
+#[derive(Clone, Copy, PartialEq, Eq)]
 pub struct Time {
     pub numerator: u8,
     pub denominator: u8,
 }
 
-#[derive(Clone, Copy)]
+#[derive(Clone, Copy, PartialEq, Eq)]
 pub enum Mode {
     Major,
     Minor,
 }
 
-// Sharps above 0, flats below.
-#[derive(Clone, Copy)]
+// Sharps above 0, flats below. No Option: document 01 names the form, a case that holds a mode (docs/DECISIONS.md).
+#[derive(Clone, Copy, PartialEq, Eq)]
 pub enum Key {
     NoKey,
     Fifths(i8, Mode),
 }
 
-#[derive(Clone, Copy)]
-pub enum Ending {
-    NoEnding,
-    Nth(u8),
-}
-
-// The passes of an ending that serves several: bit n of the mask is pass n + 1.
-#[derive(Clone, Copy)]
-pub enum Passes {
-    NoPasses,
-    Mask(u8),
-}
-
 // Where a bar stands among neighbours of the same ending number.
-#[derive(Clone, Copy)]
+#[derive(Clone, Copy, PartialEq, Eq)]
 pub enum EndingPlace {
     NoPlace,
     Begin,
@@ -52,7 +40,7 @@ pub enum EndingPlace {
     BeginEnd,
 }
 
-#[derive(Clone, Copy)]
+#[derive(Clone, Copy, PartialEq, Eq)]
 pub enum Direction {
     NoDirection,
     Coda,
@@ -67,45 +55,42 @@ pub enum Direction {
     ToCoda,
 }
 
-#[derive(Clone, Copy)]
-pub enum Tempo {
-    NoTempo,
-    Bpm(u16),
-}
-
 // Whether the time or the key is another than before.
-#[derive(Clone, Copy)]
+#[derive(Clone, Copy, PartialEq, Eq)]
 pub struct Changes {
     pub time: bool,
     pub key: bool,
 }
 
 // A double bar stands only where no repeat ends.
-#[derive(Clone, Copy)]
+#[derive(Clone, Copy, PartialEq, Eq)]
 pub struct Repeats {
     pub start: bool,
     pub end: bool,
     pub double: bool,
 }
 
-#[derive(Clone, Copy)]
+#[derive(Clone, Copy, PartialEq, Eq)]
 pub struct Bar {
     pub time: Time,
     pub key: Key,
     pub changed: Changes,
     pub repeats: Repeats,
-    pub ending: Ending,
-    pub passes: Passes,
+    // its number
+    pub ending: Option<u8>,
+    // of an ending that serves several passes: bit n of the mask is pass n + 1
+    pub passes: Option<u8>,
     pub place: EndingPlace,
     pub marker: Range,
     pub direction: Direction,
-    pub tempo: Tempo,
+    // beats per minute
+    pub tempo: Option<u16>,
 }
 
 // ---- tracks
 
-// The keys of the open strings in the file's order; those past `strings` are 0.
-#[derive(Clone, Copy)]
+// The keys of the open strings in the file's order, each a word of the table (docs/TABLES.md); those past `strings` are 0.
+#[derive(Clone, Copy, PartialEq, Eq)]
 pub struct Tunings {
     pub strings: u8,
     pub first: u8,
@@ -117,20 +102,14 @@ pub struct Tunings {
     pub seventh: u8,
 }
 
-#[derive(Clone, Copy)]
+#[derive(Clone, Copy, PartialEq, Eq)]
 pub enum Clef {
     Treble,
     Bass,
     Percussion,
 }
 
-#[derive(Clone, Copy)]
-pub enum Program {
-    NoProgram,
-    Midi(u8),
-}
-
-#[derive(Clone, Copy)]
+#[derive(Clone, Copy, PartialEq, Eq)]
 pub struct Track {
     pub name: Range,
     pub tunings: Tunings,
@@ -139,25 +118,26 @@ pub struct Track {
     pub tablature: bool,
     pub clef: Clef,
     pub channel: u8,
-    pub program: Program,
+    // of General MIDI
+    pub program: Option<u8>,
 }
 
 // ---- rows
 
-#[derive(Clone, Copy)]
+#[derive(Clone, Copy, PartialEq, Eq)]
 pub struct RowPlace {
     pub bar: u32,
     pub track: u32,
     pub voice: u32,
 }
 
-#[derive(Clone, Copy)]
+#[derive(Clone, Copy, PartialEq, Eq)]
 pub enum RowKind {
-    Grace,
     Beat,
+    Grace,
 }
 
-#[derive(Clone, Copy)]
+#[derive(Clone, Copy, PartialEq, Eq)]
 pub enum Duration {
     Whole,
     Half,
@@ -169,27 +149,27 @@ pub enum Duration {
 }
 
 // So many notes in the time of so many.
-#[derive(Clone, Copy)]
-pub enum Tuplet {
-    NoTuplet,
-    Ratio(u8, u8),
+#[derive(Clone, Copy, PartialEq, Eq)]
+pub struct Tuplet {
+    pub actual: u8,
+    pub normal: u8,
 }
 
-#[derive(Clone, Copy)]
+#[derive(Clone, Copy, PartialEq, Eq)]
 pub struct NoteValue {
     pub duration: Duration,
     pub dot: bool,
-    pub tuplet: Tuplet,
+    pub tuplet: Option<Tuplet>,
 }
 
-// Entries of another table that belong to a row: 0 of them at place 0 where it has none.
-#[derive(Clone, Copy)]
+// Entries of another table that belong to a row. No Option: where it has none the table has 0 of them at place 0 (docs/TABLES.md).
+#[derive(Clone, Copy, PartialEq, Eq)]
 pub struct Span {
     pub first: u32,
     pub count: u32,
 }
 
-#[derive(Clone, Copy)]
+#[derive(Clone, Copy, PartialEq, Eq)]
 pub enum Technique {
     NoTechnique,
     Bend,
@@ -199,29 +179,23 @@ pub enum Technique {
 }
 
 // The hammer mark stands only until hammers are resolved to pull-offs: no row of a finished table has it.
-#[derive(Clone, Copy)]
+#[derive(Clone, Copy, PartialEq, Eq)]
 pub enum TechniqueText {
     NoText,
-    HammerMark,
     PalmMute,
     LetRing,
+    HammerMark,
 }
 
-#[derive(Clone, Copy)]
-pub enum Height {
-    NoHeight,
-    Peak(Cents),
-}
-
-#[derive(Clone, Copy)]
+#[derive(Clone, Copy, PartialEq, Eq)]
 pub struct Playing {
     pub text: TechniqueText,
     pub technique: Technique,
     pub curve: Span,
-    pub height: Height,
+    pub height: Option<Cents>,
 }
 
-#[derive(Clone, Copy)]
+#[derive(Clone, Copy, PartialEq, Eq)]
 pub enum Dynamic {
     NoDynamic,
     Ppp,
@@ -234,7 +208,7 @@ pub enum Dynamic {
     Fff,
 }
 
-#[derive(Clone, Copy)]
+#[derive(Clone, Copy, PartialEq, Eq)]
 pub enum Articulation {
     Marcato,
     Accent,
@@ -254,33 +228,28 @@ pub enum Articulation {
     Plop,
 }
 
-// Articulations in the order added, none twice: a hexadecimal number of `count` digits, a digit for each, read from the left.
-#[derive(Clone, Copy)]
+// Articulations in the order added, none twice, as the table has them (docs/TABLES.md): a hexadecimal number of `count` digits, a digit
+// for each, read from the left.
+#[derive(Clone, Copy, PartialEq, Eq)]
 pub struct Articulations {
     pub count: u8,
     pub digits: u64,
 }
 
-#[derive(Clone, Copy)]
-pub enum MarkAt {
-    ThisMark(Articulation),
-    NoMark,
-}
-
-#[derive(Clone, Copy)]
+#[derive(Clone, Copy, PartialEq, Eq)]
 pub enum Arpeggio {
     NoArpeggio,
     Up,
     Down,
 }
 
-#[derive(Clone, Copy)]
+#[derive(Clone, Copy, PartialEq, Eq)]
 pub enum NoteHead {
     Normal,
     Cross,
 }
 
-#[derive(Clone, Copy)]
+#[derive(Clone, Copy, PartialEq, Eq)]
 pub struct Expression {
     pub dynamic: Dynamic,
     pub articulations: Articulations,
@@ -288,7 +257,7 @@ pub struct Expression {
     pub head: NoteHead,
 }
 
-#[derive(Clone, Copy)]
+#[derive(Clone, Copy, PartialEq, Eq)]
 pub enum Ottava {
     NoOttava,
     Va8,
@@ -298,13 +267,13 @@ pub enum Ottava {
 }
 
 // What starts at a row, and whether one ends there.
-#[derive(Clone, Copy)]
+#[derive(Clone, Copy, PartialEq, Eq)]
 pub struct OttavaMarks {
     pub start: Ottava,
     pub end: bool,
 }
 
-#[derive(Clone, Copy)]
+#[derive(Clone, Copy, PartialEq, Eq)]
 pub enum Finger {
     NoFinger,
     Thumb,
@@ -314,7 +283,7 @@ pub enum Finger {
     Little,
 }
 
-#[derive(Clone, Copy)]
+#[derive(Clone, Copy, PartialEq, Eq)]
 pub struct Row {
     pub place: RowPlace,
     pub kind: RowKind,
@@ -334,52 +303,52 @@ pub struct Row {
 // ---- members, curve points, texts
 
 // String 1 is the lowest.
-#[derive(Clone, Copy)]
-pub enum TabPosition {
-    OffTablature,
-    Fretted(u8, u8),
+#[derive(Clone, Copy, PartialEq, Eq)]
+pub struct TabPosition {
+    pub string: u8,
+    pub fret: u8,
 }
 
-#[derive(Clone, Copy)]
+#[derive(Clone, Copy, PartialEq, Eq)]
 pub struct Ties {
     pub end: bool,
     pub start: bool,
 }
 
-#[derive(Clone, Copy)]
+#[derive(Clone, Copy, PartialEq, Eq)]
 pub struct Member {
     pub key: u8,
     pub flat: bool,
-    pub position: TabPosition,
+    pub position: Option<TabPosition>,
     pub ghosted: bool,
     pub ties: Ties,
     pub finger: Finger,
 }
 
 // A place on a bend curve, 0 to 1,000.
-#[derive(Clone, Copy)]
+#[derive(Clone, Copy, PartialEq, Eq)]
 pub struct PerMille(pub u16);
 
 // A height above or below the fretted pitch.
-#[derive(Clone, Copy)]
+#[derive(Clone, Copy, PartialEq, Eq)]
 pub struct Cents(pub i16);
 
-#[derive(Clone, Copy)]
+#[derive(Clone, Copy, PartialEq, Eq)]
 pub struct Point {
     pub position: PerMille,
     pub height: Cents,
 }
 
-#[derive(Clone, Copy)]
+#[derive(Clone, Copy, PartialEq, Eq)]
 pub struct Text {
     pub bar: u32,
     pub track: u32,
     pub range: Range,
 }
 
-// ---- the answer of a reading
+// ---- the answer of a reading: no Result, since the equation `reading` and the words that C gets say the outcome beside the values
 
-#[derive(Clone, Copy)]
+#[derive(Clone, Copy, PartialEq, Eq)]
 pub enum Outcome {
     Read,
     Truncated,
@@ -392,7 +361,7 @@ pub enum Outcome {
 }
 
 // Numbers of entries of the six tables.
-#[derive(Clone, Copy)]
+#[derive(Clone, Copy, Default, PartialEq, Eq)]
 pub struct Sizes {
     pub bars: u32,
     pub tracks: u32,
@@ -402,26 +371,20 @@ pub struct Sizes {
     pub texts: u32,
 }
 
-#[derive(Clone, Copy)]
-pub enum LyricTrack {
-    NoLyricTrack,
-    Under(u32),
-}
-
-#[derive(Clone, Copy)]
+#[derive(Clone, Copy, Default, PartialEq, Eq)]
 pub struct LyricLine {
     pub start: u32,
     pub text: Range,
 }
 
-#[derive(Clone, Copy)]
+#[derive(Clone, Copy, Default, PartialEq, Eq)]
 pub struct Lyrics {
-    pub track: LyricTrack,
+    pub track: Option<u32>,
     pub lines: [LyricLine; 5],
 }
 
 // `used` is the number of bytes that the reading used.
-#[derive(Clone, Copy)]
+#[derive(Clone, Copy, Default, PartialEq, Eq)]
 pub struct Song {
     pub used: usize,
     pub version: u32,
@@ -431,12 +394,12 @@ pub struct Song {
     pub lyricist: Range,
     pub copyright: Range,
     pub lyrics: Lyrics,
-    pub tempo: Tempo,
+    pub tempo: Option<u16>,
 }
 
 // What a reading reports and does not keep. A loss's code in the Rust is "gp." and the name of its count here, with dashes:
 // `drum_kit` counts the reports of "gp.drum-kit". The counts stand in byte order of the codes.
-#[derive(Clone, Copy)]
+#[derive(Clone, Copy, PartialEq, Eq)]
 pub enum Loss {
     DrumKit,
     HarmonicType,
@@ -457,7 +420,7 @@ pub enum Loss {
     UnsupportedWhammy,
 }
 
-#[derive(Clone, Copy)]
+#[derive(Clone, Copy, Default, PartialEq, Eq)]
 pub struct Losses {
     pub drum_kit: u32,
     pub harmonic_type: u32,
@@ -479,7 +442,7 @@ pub struct Losses {
 }
 
 // `counts` are the entries kept, `rooms` those that the tables need room for.
-#[derive(Clone, Copy)]
+#[derive(Clone, Copy, PartialEq, Eq)]
 pub struct Answer {
     pub outcome: Outcome,
     pub song: Song,

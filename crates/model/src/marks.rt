@@ -3,7 +3,7 @@ ghost use Rattle.std.specs.Prelude.{◌≡◌, ◌-◌, ◌/◌, ◌%◌};
 ghost use Rattle.model.specs.Kinds.{articulation_word};
 ghost use Rattle.model.specs.Marks.{added_in, byte_counted, no_marks, has_digit, with_digit, add_mark, shifted, mark_at};
 
-use crate::{Articulation, Articulations, MarkAt, kinds};
+use crate::{Articulation, Articulations};
 
 // Articulations while they are added. Two whole words: a struct with padding is copied in pieces (docs/PROVING.md, Speed).
 #[derive(Clone, Copy)]
@@ -45,7 +45,7 @@ fn has_digit(count: u64, digits: u64, digit: u64) -> bool
 fn digit_of(a: Articulation) -> u64
     ensures { result ≡ articulation_word a }
 {
-    kinds::articulation_word(a) as u64
+    u32::from(a) as u64
 }
 
 // One more digit; sixteen stay as they are.
@@ -97,12 +97,12 @@ fn without_last(digits: u64, n: u8) -> u64
 }
 
 // The articulation that was added as number `k`, from 0.
-pub fn mark_at(m: Articulations, k: u8) -> MarkAt
+pub fn mark_at(m: Articulations, k: u8) -> Option<Articulation>
     ensures { result ≡ mark_at m k }
 {
     if m.count <= k {
-        return MarkAt::NoMark;
+        return None;
     }
     let d = without_last(m.digits, m.count - 1 - k);
-    MarkAt::ThisMark(kinds::articulation_of((d % 16) as u32))
+    Some(Articulation::from((d % 16) as u32))
 }

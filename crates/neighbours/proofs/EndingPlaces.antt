@@ -1,4 +1,5 @@
 -- The place of every bar is the one that its neighbours say.
+use Rattle.std.specs.Prelude.{Option}
 use Prim.Native.Nat.{ℕ, zero, suc, ◌+◌, ◌-◌, ◌<◌}
 use native.Mathlib.Omega.{arith}
 use mathlib.Core.Path.{◌≡◌, refl, sym, ap, ◌∙◌}
@@ -14,7 +15,6 @@ use Rattle.tables.specs.Table.{change}
 use Rattle.tables.proofs.Laws.{length-change}
 use Rattle.model.specs.declared.Bar.{Bar}
 use Rattle.model.specs.declared.EndingPlace.TheVariants.{NoPlace, Begin, Mid, End, BeginEnd}
-use Rattle.model.specs.declared.Tempo.{Tempo}
 use Rattle.model.specs.declared.Time.{Time}
 use Rattle.header.specs.declared.Header.{Header}
 use Rattle.entries.specs.Changed.{with_place, with_tempo}
@@ -143,7 +143,7 @@ module _ (own : ℕ) (b : Bar) (is : number_of b.ending ≡ own) where
 
 -- ---- a bar that is given a tempo
 
-module _ (x : Tempo) where
+module _ (x : Option ℕ) where
   abbrev timed : Bar → Bar
   timed b = with_tempo (first_tempo b.tempo x) b
 

@@ -1,4 +1,5 @@
 -- The rows and members that are kept of a file are chords one after another.
+use Rattle.std.specs.Prelude.{None, Option, Some}
 use Prim.Native.Nat.{ℕ, zero, suc, ◌+◌}
 use native.Mathlib.Omega.{arith}
 use mathlib.Core.Path.{◌≡◌, refl, sym, ap, ◌∙◌}
@@ -16,10 +17,8 @@ use Rattle.model.specs.declared.OttavaMarks.{OttavaMarks}
 use Rattle.model.specs.declared.RowPlace.{RowPlace}
 use Rattle.score.specs.declared.Fretboard.{Fretboard}
 use Rattle.score.specs.declared.Hammer.{Hammer}
-use Rattle.score.specs.declared.Hammer.TheVariants.{NoHammer, Waits}
 use Rattle.score.specs.declared.KeptCounts.{KeptCounts}
 use Rattle.score.specs.declared.OttavaRun.{OttavaRun}
-use Rattle.score.specs.declared.OttavaRun.TheVariants.{NoRun, Over}
 use Rattle.beat.specs.Beat.{BeatIs}
 use Rattle.score.specs.Members.{Keyed, member_of, Graced, graces, grace_member}
 use Rattle.score.specs.Rows.{RowIs, rest_row, chord_row, grace_row, grace_rows, beat_row, rows_of}
@@ -66,22 +65,22 @@ module _ (g : Row → Row) (keeps : (n : ℕ) (r : Row) (c : Chord) → Seen n r
 
 -- a row that turns pull-off, or at which an ottava does not end, stands for the same chord
 module _ (n : ℕ) (rs : List Row) (cs : List Chord) (f : Laid n rs cs) (r : RowIs) where
-  laid_hammer : (h : Hammer) → Laid n (turn_hammer lists h r rs) cs
-  laid_hammer NoHammer = f
-  laid_hammer (Waits i key) =
-      pick_both (λ q. Laid n q cs) (pulls r key) (lists.pull_off i rs) rs
+  laid_hammer : (h : Option Hammer) → Laid n (turn_hammer lists h r rs) cs
+  laid_hammer None = f
+  laid_hammer (Some w) =
+      pick_both (λ q. Laid n q cs) (pulls r w.key) (lists.pull_off w.row rs) rs
       (laid_change _
       (λ n q c s. record { track = s.track; voice = s.voice; kind = s.kind; members = s.members; rest = s.rest })
-      n rs cs i f)
+      n rs cs w.row f)
       f
 
-  laid_run : (o : OttavaRun) → Laid n (turn_run lists o r rs) cs
-  laid_run NoRun = f
-  laid_run (Over i kind) =
-      pick_both (λ q. Laid n q cs) (under r && same_kind r (Over i kind)) (lists.carry_on i rs) rs
+  laid_run : (o : Option OttavaRun) → Laid n (turn_run lists o r rs) cs
+  laid_run None = f
+  laid_run (Some o) =
+      pick_both (λ q. Laid n q cs) (under r && same_kind r (Some o)) (lists.carry_on o.row rs) rs
       (laid_change _
       (λ n q c s. record { track = s.track; voice = s.voice; kind = s.kind; members = s.members; rest = s.rest })
-      n rs cs i f)
+      n rs cs o.row f)
       f
 
 -- ---- the chord of a row that is kept

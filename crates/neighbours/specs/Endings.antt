@@ -1,9 +1,7 @@
 -- An ending's place among equal neighbours, said of a finished list of bars.
-use Rattle.std.specs.Prelude.{ℕ, zero, suc, List, eqb, get_or}
+use Rattle.std.specs.Prelude.{ℕ, zero, suc, List, eqb, get_or, None, Option, Some}
 use Rattle.format.specs.Text.{pick}
 use Rattle.model.specs.declared.Bar.{Bar}
-use Rattle.model.specs.declared.Ending.{Ending}
-use Rattle.model.specs.declared.Ending.TheVariants.{NoEnding, Nth}
 use Rattle.model.specs.declared.EndingPlace.{EndingPlace}
 use Rattle.model.specs.declared.EndingPlace.TheVariants.{NoPlace, Begin, Mid, End, BeginEnd}
 use Rattle.score.specs.Bars.{no_bar}
@@ -17,9 +15,9 @@ place_by before own after =
     (pick (eqb before own) (pick (eqb after own) Mid End) (pick (eqb after own) Begin BeginEnd))
 
 -- the number of an ending
-abbrev pub number_of : Ending → ℕ
-number_of NoEnding = 0
-number_of (Nth n) = n
+abbrev pub number_of : Option ℕ → ℕ
+number_of None = 0
+number_of (Some n) = n
 
 -- the ending number of bar i, 0 where there is no such bar
 abbrev pub number_at : List Bar → ℕ → ℕ

@@ -1,4 +1,5 @@
 -- What each function that reads a part of a note returns, over variables: the facts of its calls are the premises.
+use Rattle.std.specs.Prelude.{None, Some}
 use Prim.Native.Nat.{ℕ, ◌+◌, ◌≤◌, ◌<◌, ◌%◌}
 use native.Mathlib.Omega.{arith}
 use mathlib.Core.Path.{◌≡◌, refl}
@@ -8,19 +9,16 @@ use lib.ListN.{get_or}
 use lib.Bits.{bit_and}
 use lib.Dec.{leb, ltb}
 use Rattle.format.specs.declared.Stop.{Stop}
-use Rattle.format.specs.declared.Place.{Place}
-use Rattle.format.specs.declared.Place.TheVariants.{At, Stopped}
+use Rattle.format.specs.Place.{Place, ReadsAs}
+use Rattle.std.specs.Prelude.{Ok, Err}
 use Rattle.format.specs.Prog.{Prog, ret, bind, has}
 use Rattle.format.specs.Fields.{u8, skip}
-use Rattle.format.specs.Place.{Gives}
 use Rattle.format.specs.Padded.{Padded, Arrives, place_at}
-use Rattle.format.proofs.Rules.{then, done}
+use Rattle.format.proofs.Rules.{then, done, took, broke, place_stop}
 use Rattle.format.proofs.Padded as pad
 use Rattle.curve.specs.Held.{held, byte_end}
 use Rattle.curve.specs.Slide.{slide_of}
-use Rattle.curve.specs.declared.level.Level.TheVariants.{Absent, Given}
 use Rattle.note.specs.declared.bend.Bend.{Bend}
-use Rattle.note.specs.declared.marks.Tremolo.TheVariants.{NoTremolo, Strokes}
 use Rattle.note.specs.Optional.{optional, Passed, more_flags}
 use Rattle.note.specs.Points.{bend, bend_in, points_at}
 use Rattle.note.specs.Marks.{note_bend, grace, grace_note, grace_flags, tremolo, slide, slide_flag, harmonic, harmonic_end, no_harmonic, trill, marks, marks_of, no_marks, no_note_effects, note_effects}
@@ -141,7 +139,7 @@ slide_kept v first more o h x = rw (byte_kept (o + 15) (omega arith) x)
 
 tremolo_read : {s : List ℕ} {at next : ℕ} (w : List ℕ) (more o : ℕ) → Padded (optional (has more 0x04) u8 0) s at (byte_in w (o + 14)) next → Padded (tremolo more) s at (tremolo_in more w o) next
 unfolding optional tremolo tremolo_in
-tremolo_read w more o h = pad.pad_made more 0x04 (λ b. Strokes (held byte_end 1 3 b)) NoTremolo h
+tremolo_read w more o h = pad.pad_made more 0x04 (λ b. Some (held byte_end 1 3 b)) None h
 
 slide_read : {s : List ℕ} {at next : ℕ} (w : List ℕ) (v first more o : ℕ) → Padded (optional (has more 0x08) u8 0) s at (byte_in w (o + 15)) next → Padded (slide v first more) s at (slide_in v first more w o) next
 unfolding optional slide slide_in
@@ -175,13 +173,17 @@ bend_stored b first o h l p q =
     let e : b.count % 4294967296 ≡ b.count = omega arith in
     rw (h, q.below.same (o + 9) (omega arith), p.is, q.is, e)
 
-pub bend_some : {s w w₁ w₂ : List ℕ} {at : ℕ} {from to : Place} (b : Bend) (first o : ℕ) → b.count < 4294967296 → (bit_and first 0x01 ≡ 0 → ⊥) → from ≡ place_at s at → Gives bend [] s from (bend_in s b) to → Put (o + 9) b.start w w₁ → Put (o + 10) b.count w₁ w₂ → FillsTo (note_bend first) s at (o + 9) w w₂ (bend_in s (bend_by first w₂ o)) to
+pub bend_some : {s w w₁ w₂ : List ℕ} {at n : ℕ} {from : Place} (b : Bend) (first o : ℕ) → b.count < 4294967296 → (bit_and first 0x01 ≡ 0 → ⊥) → from ≡ place_at s at → ReadsAs (bend_in s) bend s from (Ok (b, n)) → Put (o + 9) b.start w w₁ → Put (o + 10) b.count w₁ w₂ → FillsTo (note_bend first) s at (o + 9) w w₂ (bend_in s (bend_by first w₂ o)) (Ok n)
 unfolding note_bend
 bend_some b first o l h e g p q =
     record {
-      reads = rw (bend_stored b first o (has_set first 0x01 h) l p q) (pad.arrive_set _ _ _ _ h (pad.from_place e g.gives));
+      reads = rw (bend_stored b first o (has_set first 0x01 h) l p q) (pad.arrive_set _ _ _ _ h (pad.from_place e (took g refl)));
       below = kept_on (omega arith) (omega arith) p.below q.below;
     }
+
+pub bend_stop : {s w : List ℕ} {at : ℕ} {from to : Place} {x : Stop} (first o : ℕ) → (bit_and first 0x01 ≡ 0 → ⊥) → from ≡ place_at s at → ReadsAs (bend_in s) bend s from (Err x) → to ≡ Err x → FillsTo (note_bend first) s at (o + 9) w w (bend_in s (bend_by first w o)) to
+unfolding note_bend
+bend_stop first o h e g z = record { reads = rw z (pad.arrive_set _ _ _ _ h (pad.from_place e (place_stop (broke g refl)))); below = kept_all }
 
 bend_kept : {n : ℕ} {a b : List ℕ} (first o : ℕ) → o + 11 ≤ n → Kept n a b → bend_by first b o ≡ bend_by first a o
 unfolding bend_by
@@ -212,7 +214,7 @@ below_bend : {w w₁ w₂ w₃ : List ℕ} (o : ℕ) → Kept (o + 7) w w₁ →
 below_bend o a b c = kept_on (omega arith) (omega arith) a (kept_on {n = o + 7} (omega arith) (omega arith) b c)
 
 module _ {s w w₁ w₂ w₃ : List ℕ} {at first more a₁ : ℕ} {mid : Place} (v flags o : ℕ) (h : bit_and flags 0x08 ≡ 0 → ⊥) (e : first ≡ get_or s at 0) (a : Stored (o + 7) first w w₁) (f : Fills (optional (leb 400 v) u8 0) 1 s (at + 1) (o + 8) w₁ w₂ (byte_in w₂ (o + 8)) a₁) (m : more ≡ byte_in w₂ (o + 8)) (b : FillsTo (note_bend first) s a₁ (o + 9) w₂ w₃ (bend_in s (bend_by first w₃ o)) mid) where
-  pub effects_stop : {x : Stop} → mid ≡ Stopped x → FillsTo (note_effects v flags) s at (o + 7) w w₃ (effects_at s v w₃ o) mid
+  pub effects_stop : {x : Stop} → mid ≡ Err x → FillsTo (note_effects v flags) s at (o + 7) w w₃ (effects_at s v w₃ o) mid
   unfolding note_effects more_flags
   effects_stop z =
       record {
@@ -220,7 +222,7 @@ module _ {s w w₁ w₂ w₃ : List ℕ} {at first more a₁ : ℕ} {mid : Place
         below = below_bend o a.below f.below b.below;
       }
 
-  pub effects_on : {w₄ : List ℕ} {past a₂ : ℕ} {to : Place} → mid ≡ At past → Fills (marks v first more) 13 s past (o + 11) w₃ w₄ (marks_by v first more w₄ o) a₂ → to ≡ place_at s a₂ → FillsTo (note_effects v flags) s at (o + 7) w w₄ (effects_at s v w₄ o) to
+  pub effects_on : {w₄ : List ℕ} {past a₂ : ℕ} {to : Place} → mid ≡ Ok past → Fills (marks v first more) 13 s past (o + 11) w₃ w₄ (marks_by v first more w₄ o) a₂ → to ≡ place_at s a₂ → FillsTo (note_effects v flags) s at (o + 7) w w₄ (effects_at s v w₄ o) to
   unfolding note_effects more_flags marks_in bend_at
   effects_on {w₄} z g t =
       let k₂ : Kept (o + 9) w₂ w₄ = kept_on (omega arith) (omega arith) b.below g.below in
@@ -257,7 +259,7 @@ dynamic_kept flags o h x = rw (byte_kept (o + 2) (omega arith) x)
 
 pub dynamic_read : {s : List ℕ} {at next : ℕ} (w : List ℕ) (flags o : ℕ) → Padded (optional (has flags 0x10) u8 0) s at (byte_in w (o + 2)) next → Padded (dynamic flags) s at (dynamic_in flags w o) next
 unfolding optional dynamic dynamic_in
-dynamic_read w flags o h = pad.pad_made flags 0x10 (λ b. Given b) Absent h
+dynamic_read w flags o h = pad.pad_made flags 0x10 (λ b. Some b) None h
 
 pub by_read : {s w w₁ w₂ w₃ w₄ : List ℕ} {at a₁ a₂ a₃ a₄ : ℕ} {to : Place} (v flags o : ℕ) → Fills (optional (has flags 0x20) u8 0) 1 s at (o + 1) w w₁ (byte_in w₁ (o + 1)) a₁ → Passed (ltb v 500 && has flags 0x01) 2 a₁ a₂ → Fills (dynamic flags) 1 s a₂ (o + 2) w₁ w₂ (dynamic_in flags w₂ o) a₃ → Fills (optional (has flags 0x20) u8 0) 1 s a₃ (o + 3) w₂ w₃ (byte_in w₃ (o + 3)) a₄ → EndTo v flags s a₄ o w₃ w₄ to → FillsTo (note_by v flags) s at (o + 1) w w₄ (note_bytes s v flags w₄ o) to
 unfolding note_by fretted_byte own_duration

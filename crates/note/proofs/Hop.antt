@@ -4,26 +4,25 @@ use native.Mathlib.Omega.{arith}
 use mathlib.Core.Path.{◌≡◌, refl, sym, ap, ◌∙◌}
 use mathlib.Core.List.{List, [], ◌∷◌}
 use mathlib.Core.Bool.{Bool, true, false, not}
+use Rattle.std.proofs.Common.{Option, Some, None}
 use lib.ListN.{get_or, set, length, length-set}
-use lib.Bits.{bit_and, and_le_r}
-use lib.Dec.{eqb, leb, ltb}
-use borrow.Author.Tests.{eqb-true, leb-true, le-leb, lt-leb, lt-ltb, eq-eqb, ne_eqb}
+use lib.Bits.{bit_and}
+use lib.Count.{ones}
+use lib.Dec.{eqb, leb}
+use borrow.Author.Tests.{eqb-true, leb-true, le-leb, lt-leb, eq-eqb, ne_eqb}
 use Rattle.format.specs.Text.{pick}
 use Rattle.format.specs.Prog.{Prog, ret, bind, turns, when_bits, has}
 use Rattle.format.specs.Fields.{u8}
 use Rattle.format.specs.Padded.{Padded}
 use Rattle.format.proofs.Run.{clash}
 use Rattle.format.proofs.Padded as pad
-use Rattle.curve.specs.declared.level.Level.TheVariants.{Absent, Given}
-use Rattle.note.specs.declared.notes.Hop.{Hop}
-use Rattle.note.specs.declared.notes.Hop.TheVariants.{To, No}
 use Rattle.note.specs.Optional.{optional}
 use Rattle.note.specs.Marks.{note_effects, no_note_effects}
 use Rattle.note.specs.Note.{NoteIs, dynamic, hands, no_hands, read_of, note_end, note_by, note, no_note}
 use Rattle.note.specs.Notes.{string_bit, string_turn, notes, no_notes}
 use Rattle.note.specs.Hop.{Unmarked, AllUnmarked, size_without, plain_size, hop_note, hop_times, count_from, string_count, hop_notes, Hopped, Hops}
 use Rattle.note.proofs.Stores.{has_set, has_clear}
-use Rattle.note.proofs.Strings.{all_at, given}
+use Rattle.note.proofs.Strings.{all_at}
 use Rattle.note.proofs.Straight.{Straight, straight_flags, fretted_read, no_duration, turned_read}
 
 -- ---- a plain note
@@ -40,9 +39,9 @@ module _ {s : List ℕ} {at : ℕ} where
   unfolding dynamic when_bits has
   dynamic_passes flags = by (eqb (bit_and flags 0x10) 0)
     where
-      by : (none : Bool) → Passes (pick none (ret Absent) (bind u8 (λ b. ret (Given b)))) s at (at + pick (not none) 1 0)
-      by true = record { value = Absent; reads = pad_to (omega arith) pad.here }
-      by false = record { value = Given (get_or s at 0); reads = pad.on _ (pad.pad_byte refl) pad.here }
+      by : (none : Bool) → Passes (pick none (ret None) (bind u8 (λ b. ret (Some b)))) s at (at + pick (not none) 1 0)
+      by true = record { value = None; reads = pad_to (omega arith) pad.here }
+      by false = record { value = Some (get_or s at 0); reads = pad.on _ (pad.pad_byte refl) pad.here }
 
   turned_passes : (v : ℕ) → Passes (optional (leb 500 v) u8 0) s at (at + pick (leb 500 v) 1 0)
   unfolding optional
@@ -104,7 +103,7 @@ hop_one s at v e =
     }
 
 -- ---- one note after another
-never_to : (s : List ℕ) (v n : ℕ) → hop_times s v n No ≡ No
+never_to : (s : List ℕ) (v n : ℕ) → hop_times s v n None ≡ None
 unfolding hop_times hop_note
 never_to s v zero = refl
 never_to s v (suc n) = never_to s v n
@@ -114,11 +113,11 @@ record Stepped (s : List ℕ) (v at next : ℕ) : Type 0 where
   plain : bit_and (get_or s at 0) 0xA9 ≡ 0x20
   is : at + plain_size v (get_or s at 0) ≡ next
 
-stepped : (s : List ℕ) (v at next : ℕ) → hop_note s v (To at) ≡ To next → Stepped s v at next
+stepped : (s : List ℕ) (v at next : ℕ) → hop_note s v (Some at) ≡ Some next → Stepped s v at next
 unfolding hop_note
 stepped s v at next = by (eqb (bit_and (get_or s at 0) 0xA9) 0x20) refl
   where
-    by : (b : Bool) → eqb (bit_and (get_or s at 0) 0xA9) 0x20 ≡ b → pick b (To (at + plain_size v (get_or s at 0))) No ≡ To next → Stepped s v at next
+    by : (b : Bool) → eqb (bit_and (get_or s at 0) 0xA9) 0x20 ≡ b → pick b (Some (at + plain_size v (get_or s at 0))) None ≡ Some next → Stepped s v at next
     by true q e = record { plain = eqb-true _ _ q; is = cc }
     by false q e = clash (cc)
 
@@ -132,33 +131,33 @@ size_most v flags = by (has flags 0x10)
 
 -- what is answered of one note
 module _ (s : List ℕ) (at v : ℕ) where
-  pub step_not : (bit_and (get_or s at 0) 0xA9 ≡ 0x20 → ⊥) → No ≡ hop_note s v (To at)
+  pub step_not : (bit_and (get_or s at 0) 0xA9 ≡ 0x20 → ⊥) → None ≡ hop_note s v (Some at)
   unfolding hop_note
   step_not h = rw (ne_eqb (bit_and (get_or s at 0) 0xA9) 0x20 h)
 
-  pub step_bare : {size : ℕ} → bit_and (get_or s at 0) 0xA9 ≡ 0x20 → bit_and (get_or s at 0) 0x10 ≡ 0 → size ≡ size_without v → To (at + size) ≡ hop_note s v (To at)
+  pub step_bare : {size : ℕ} → bit_and (get_or s at 0) 0xA9 ≡ 0x20 → bit_and (get_or s at 0) 0x10 ≡ 0 → size ≡ size_without v → Some (at + size) ≡ hop_note s v (Some at)
   unfolding hop_note plain_size
   step_bare {size} h g e =
       let q : at + size ≡ at + (size_without v + 0) = omega arith in
-      rw (eq-eqb (bit_and (get_or s at 0) 0xA9) 0x20 h, has_clear (get_or s at 0) 0x10 g) (ap (λ (n : ℕ). To n) q)
+      rw (eq-eqb (bit_and (get_or s at 0) 0xA9) 0x20 h, has_clear (get_or s at 0) 0x10 g) (ap (λ (n : ℕ). Some n) q)
 
-  pub step_given : {size : ℕ} → bit_and (get_or s at 0) 0xA9 ≡ 0x20 → (bit_and (get_or s at 0) 0x10 ≡ 0 → ⊥) → size ≡ size_without v → To (at + size + 1) ≡ hop_note s v (To at)
+  pub step_given : {size : ℕ} → bit_and (get_or s at 0) 0xA9 ≡ 0x20 → (bit_and (get_or s at 0) 0x10 ≡ 0 → ⊥) → size ≡ size_without v → Some (at + size + 1) ≡ hop_note s v (Some at)
   unfolding hop_note plain_size
   step_given {size} h g e =
       let q : at + size + 1 ≡ at + (size_without v + 1) = omega arith in
-      rw (eq-eqb (bit_and (get_or s at 0) 0xA9) 0x20 h, has_set (get_or s at 0) 0x10 g) (ap (λ (n : ℕ). To n) q)
+      rw (eq-eqb (bit_and (get_or s at 0) 0xA9) 0x20 h, has_set (get_or s at 0) 0x10 g) (ap (λ (n : ℕ). Some n) q)
 
-pub step_near : (s : List ℕ) (v at next : ℕ) → hop_note s v (To at) ≡ To next → next ≤ at + 5
+pub step_near : (s : List ℕ) (v at next : ℕ) → hop_note s v (Some at) ≡ Some next → next ≤ at + 5
 step_near s v at next e = omega (arith, (stepped s v at next e).is, size_most v (get_or s at 0))
 
-times_near : (s : List ℕ) (v n at next : ℕ) → hop_times s v n (To at) ≡ To next → next ≤ at + 5 * n
+times_near : (s : List ℕ) (v n at next : ℕ) → hop_times s v n (Some at) ≡ Some next → next ≤ at + 5 * n
 unfolding hop_times
 times_near s v zero at next e = let q : at ≡ next = cc in omega arith
-times_near s v (suc n) at next e = by (hop_note s v (To at)) refl e (λ m q. times_near s v n m next q)
+times_near s v (suc n) at next e = by (hop_note s v (Some at)) refl e (λ m q. times_near s v n m next q)
   where
-    by : (h : Hop) → hop_note s v (To at) ≡ h → hop_times s v n h ≡ To next → ((m : ℕ) → hop_times s v n (To m) ≡ To next → next ≤ m + 5 * n) → next ≤ at + 5 * suc n
-    by No q f ih = clash (let z : No ≡ To next = sym (never_to s v n) ∙ f in cc)
-    by (To m) q f ih = omega (arith, step_near s v at m q, ih m f)
+    by : (h : Option ℕ) → hop_note s v (Some at) ≡ h → hop_times s v n h ≡ Some next → ((m : ℕ) → hop_times s v n (Some m) ≡ Some next → next ≤ m + 5 * n) → next ≤ at + 5 * suc n
+    by None q f ih = clash (let z : None ≡ Some next = sym (never_to s v n) ∙ f in cc)
+    by (Some m) q f ih = omega (arith, step_near s v at m q, ih m f)
 
 set-unmarked : (ns : List NoteIs) (k : ℕ) (x : NoteIs) → Unmarked x → AllUnmarked ns → AllUnmarked (set ns k x)
 set-unmarked [] k x u h = h
@@ -176,17 +175,17 @@ module _ (s : List ℕ) (v strings next : ℕ) where
   -- the strings from k on, n of them
   abbrev HopsFrom : ℕ → ℕ → Type 0
   HopsFrom n k =
-      (at : ℕ) (ns : List NoteIs) → AllUnmarked ns → hop_times s v (count_from n k strings) (To at) ≡ To next
+      (at : ℕ) (ns : List NoteIs) → AllUnmarked ns → hop_times s v (count_from n k strings) (Some at) ≡ Some next
       → Turned (turns n k (string_turn v strings) ns) s at next (length ns)
 
   hop_turn : (n k : ℕ) → HopsFrom n (k + 1) → HopsFrom (suc n) k
   unfolding turns count_from hop_times has when_bits
   hop_turn n k ih at ns u = by (eqb (bit_and strings (string_bit k)) 0)
     where
-      set_by : (h : Hop) → hop_note s v (To at) ≡ h → hop_times s v (count_from n (k + 1) strings) h ≡ To next
+      set_by : (h : Option ℕ) → hop_note s v (Some at) ≡ h → hop_times s v (count_from n (k + 1) strings) h ≡ Some next
           → Turned (bind (bind (note v) (λ x. ret (set ns k x))) (λ t. turns n (k + 1) (string_turn v strings) t)) s at next (length ns)
-      set_by No q e = clash (let z : No ≡ To next = sym (never_to s v (count_from n (k + 1) strings)) ∙ e in cc)
-      set_by (To m) q e =
+      set_by None q e = clash (let z : None ≡ Some next = sym (never_to s v (count_from n (k + 1) strings)) ∙ e in cc)
+      set_by (Some m) q e =
           let x : OneHop v s at m = rw (stepped s v at m q).is at (hop_one s at v (stepped s v at m q).plain) in
           let r = ih m (set ns k x.one) (set-unmarked ns k x.one x.unmarked u) e in
           record {
@@ -196,12 +195,12 @@ module _ (s : List ℕ) (v strings next : ℕ) where
             long = r.long ∙ length-set ns k x.one;
           }
 
-      by : (none : Bool) → hop_times s v (pick (not none) (suc (count_from n (k + 1) strings)) (count_from n (k + 1) strings)) (To at) ≡ To next
+      by : (none : Bool) → hop_times s v (pick (not none) (suc (count_from n (k + 1) strings)) (count_from n (k + 1) strings)) (Some at) ≡ Some next
           → Turned (bind (pick none (ret ns) (bind (note v) (λ x. ret (set ns k x)))) (λ t. turns n (k + 1) (string_turn v strings) t)) s at next (length ns)
       by true e =
           let r = ih at ns u e in
           record { over = r.over; reads = pad.on _ pad.here r.reads; unmarked = r.unmarked; long = r.long }
-      by false e = set_by (hop_note s v (To at)) refl e
+      by false e = set_by (hop_note s v (Some at)) refl e
 
   hop_from : (n k : ℕ) → HopsFrom n k
   unfolding turns count_from hop_times
@@ -226,11 +225,11 @@ unfolding no_notes no_note
 none_marked = let u : Unmarked no_note = record { effects = refl; bend = refl } in (u, (u, (u, (u, (u, (u, (u, tt)))))))
 
 -- all of the notes
-hopped : (s : List ℕ) (from v strings next : ℕ) → hop_notes s from v strings ≡ To next → Hopped v strings s from next
+hopped : (s : List ℕ) (from v strings next : ℕ) → hop_notes s from v strings ≡ Some next → Hopped v strings s from next
 unfolding hop_notes notes string_count no_notes
 hopped s from v strings next = by (leb (from + 35) (length s)) refl
   where
-    by : (b : Bool) → leb (from + 35) (length s) ≡ b → pick b (hop_times s v (string_count strings) (To from)) No ≡ To next → Hopped v strings s from next
+    by : (b : Bool) → leb (from + 35) (length s) ≡ b → pick b (hop_times s v (string_count strings) (Some from)) None ≡ Some next → Hopped v strings s from next
     by false q e = clash (cc)
     by true q e =
         let room : from + 35 ≤ length s = leb-true _ _ q in
@@ -249,70 +248,59 @@ hopped s from v strings next = by (leb (from + 35) (length s)) refl
           seven = r.long;
         }
 
-pub hops : {s : List ℕ} {from v strings : ℕ} {r : Hop} → hop_notes s from v strings ≡ r → Hops v strings s from r
+pub hops : {s : List ℕ} {from v strings : ℕ} {r : Option ℕ} → hop_notes s from v strings ≡ r → Hops v strings s from r
 hops {s} {from} {v} {strings} e = record { to = λ next q. hopped s from v strings next (e ∙ q); not = λ q. e ∙ q }
 
-pub hops_not : {s : List ℕ} {from v strings : ℕ} → length s < from + 35 → Hops v strings s from No
+pub hops_not : {s : List ℕ} {from v strings : ℕ} → length s < from + 35 → Hops v strings s from None
 unfolding hop_notes
 hops_not {s} {from} h = hops (rw (lt-leb (from + 35) (length s) h))
 
--- ---- a set of bits without its last string
-abbrev fewer : ℕ → Bool
-fewer m = pick (ltb 0 m) (eqb (string_count m) (suc (string_count (bit_and m (m - 1))))) true
+-- ---- how many strings a set has
+abbrev counts : ℕ → Bool
+counts m = eqb (ones (m % 128)) (string_count m)
 
-abbrev low : ℕ → Bool
-low m = eqb (string_count (m % 128)) (string_count m)
-
-count_fewer : (m : ℕ) → m < 128 → 0 < m → string_count m ≡ suc (string_count (bit_and m (m - 1)))
-unfolding string_count count_from has string_bit
-count_fewer m h p = eqb-true _ _ (given _ _ (all_at 128 fewer refl m h) (lt-ltb _ _ p))
-
-count_low : (m : ℕ) → m < 256 → string_count (m % 128) ≡ string_count m
-unfolding string_count count_from has string_bit
-count_low m h = eqb-true _ _ (all_at 256 low refl m h)
-
-pub set_less : (m : ℕ) → 0 < m → bit_and m (m - 1) < m
-set_less m p = omega (arith, and_le_r m (m - 1))
+pub strings_counted : (m : ℕ) → m < 256 → ones (m % 128) ≡ string_count m
+unfolding ones string_count count_from has string_bit
+strings_counted m h = eqb-true _ _ (all_at 256 counts refl m h)
 
 -- ---- what the loop keeps
-pub record Hopping (s : List ℕ) (from v strings at mask : ℕ) : Type 0 where
-  pub small : mask < 128
+pub record Hopping (s : List ℕ) (from v strings at done : ℕ) : Type 0 where
   pub room : from + 35 ≤ length s
-  pub near : at + 5 * string_count mask ≤ from + 35
-  pub told : hop_notes s from v strings ≡ hop_times s v (string_count mask) (To at)
+  pub near : at ≤ from + 5 * done
+  pub few : ones (strings % 128) ≤ 7
+  pub told : hop_notes s from v strings ≡ hop_times s v (ones (strings % 128) - done) (Some at)
 
-pub hopping_starts : (s : List ℕ) (from v strings : ℕ) → from + 35 ≤ length s → strings < 256 → Hopping s from v strings from (strings % 128)
+pub hopping_starts : (s : List ℕ) (from v strings : ℕ) → from + 35 ≤ length s → strings < 256 → Hopping s from v strings from 0
 unfolding hop_notes
 hopping_starts s from v strings h l =
+    let all : ones (strings % 128) - 0 ≡ string_count strings = omega (arith, strings_counted strings l) in
     record {
-      small = omega arith;
       room = h;
-      near = omega (arith, seven_most (strings % 128));
-      told = rw (le-leb (from + 35) (length s) h, count_low strings l);
+      near = omega arith;
+      few = omega (arith, strings_counted strings l, seven_most strings);
+      told = rw (le-leb (from + 35) (length s) h, all) refl;
     }
 
-module _ {s : List ℕ} {from v strings at mask : ℕ} (g : Hopping s from v strings at mask) where
-  pub hopping_ends : mask ≡ 0 → Hops v strings s from (To at)
-  unfolding hop_times string_count count_from has string_bit
-  hopping_ends e = hops (g.told ∙ rw e)
+module _ {s : List ℕ} {from v strings at done : ℕ} (g : Hopping s from v strings at done) where
+  pub hopping_ends : ones (strings % 128) ≤ done → Hops v strings s from (Some at)
+  unfolding hop_times
+  hopping_ends e =
+      let none : ones (strings % 128) - done ≡ 0 = omega arith in
+      hops (g.told ∙ rw none)
 
-  module _ (p : 0 < mask) where
-    pub hopping_within : at < length s
-    hopping_within = omega (arith, g.near, g.room, count_fewer mask g.small p)
+  module _ (p : done < ones (strings % 128)) where
+    pub hopping_within : at + 5 ≤ length s
+    hopping_within = omega (arith, g.near, g.room, g.few)
 
-    one_less : hop_notes s from v strings ≡ hop_times s v (string_count (bit_and mask (mask - 1))) (hop_note s v (To at))
+    one_less : hop_notes s from v strings ≡ hop_times s v (ones (strings % 128) - (done + 1)) (hop_note s v (Some at))
     unfolding hop_times
-    one_less = g.told ∙ rw (count_fewer mask g.small p)
+    one_less =
+        let less : ones (strings % 128) - done ≡ suc (ones (strings % 128) - (done + 1)) = omega arith in
+        g.told ∙ rw less
 
-    pub hopping_not : {r : Hop} → r ≡ hop_note s v (To at) → r ≡ No → Hops v strings s from r
-    hopping_not e q = rw q (hops (one_less ∙ rw (sym e ∙ q) (never_to s v (string_count (bit_and mask (mask - 1))))))
+    pub hopping_not : None ≡ hop_note s v (Some at) → Hops v strings s from None
+    hopping_not e = hops (one_less ∙ rw (sym e) (never_to s v (ones (strings % 128) - (done + 1))))
 
-    pub hopping_on : {r : Hop} {next : ℕ} → r ≡ hop_note s v (To at) → r ≡ To next → Hopping s from v strings next (bit_and mask (mask - 1))
-    hopping_on {r} {next} e q =
-        let h : hop_note s v (To at) ≡ To next = sym e ∙ q in
-        record {
-          small = omega (arith, set_less mask p, g.small);
-          room = g.room;
-          near = omega (arith, g.near, count_fewer mask g.small p, step_near s v at next h);
-          told = one_less ∙ rw h;
-        }
+    pub hopping_on : {next : ℕ} → Some next ≡ hop_note s v (Some at) → Hopping s from v strings next (done + 1)
+    hopping_on {next} e =
+        record { room = g.room; near = omega (arith, g.near, step_near s v at next (sym e)); few = g.few; told = one_less ∙ rw (sym e) }

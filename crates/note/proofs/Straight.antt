@@ -8,7 +8,7 @@ use lib.ListN.{get_or, length}
 use lib.Bits.{bit_and}
 use lib.Dec.{leb, ltb, eqb}
 use borrow.Author.Tests.{eqb-true, leb-true}
-use Rattle.format.specs.declared.Place.TheVariants.{At}
+use Rattle.std.specs.Prelude.{Ok}
 use Rattle.format.specs.Prog.{Prog, has}
 use Rattle.format.specs.Fields.{u8}
 use Rattle.format.specs.Padded.{Padded}
@@ -95,7 +95,7 @@ straight_read {s} {w} {w₁} {w₂} {w₃} {w₄} {w₅} {w₆} {w₇} {flags = 
     }
 
 -- where all of its bytes are there, it comes to a place
-pub fills_there : {A : Type 0} {p : Prog A} {n : ℕ} {s w w₁ : List ℕ} {at k next : ℕ} {a : A} → at + n ≤ length s → Fills p n s at k w w₁ a next → FillsTo p s at k w w₁ a (At next)
+pub fills_there : {A : Type 0} {p : Prog A} {n : ℕ} {s w w₁ : List ℕ} {at k next : ℕ} {a : A} → at + n ≤ length s → Fills p n s at k w w₁ a next → FillsTo p s at k w w₁ a (Ok next)
 fills_there h f =
     record {
       reads =

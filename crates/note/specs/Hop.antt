@@ -1,13 +1,10 @@
 -- Past the notes of a beat, where all are plain: kind, fret and perhaps a dynamic. A shortcut for a pass that only counts: nothing of them
 -- is kept.
-use Rattle.std.specs.Prelude.{ℕ, zero, suc, ◌+◌, ◌≤◌, ◌≡◌, Bool, true, false, List, [], ◌∷◌, get_or, length, eqb, leb}
+use Rattle.std.specs.Prelude.{ℕ, zero, suc, ◌+◌, ◌≤◌, ◌≡◌, List, [], ◌∷◌, get_or, length, eqb, leb, Option, Some, None, Ok}
 use Rattle.std.specs.Int.Bits.{bit_and}
-use Rattle.format.specs.declared.Place.TheVariants.{At}
 use Rattle.format.specs.Text.{pick}
 use Rattle.format.specs.Prog.{has}
 use Rattle.format.specs.Padded.{Arrives}
-use Rattle.note.specs.declared.notes.Hop.{Hop}
-use Rattle.note.specs.declared.notes.Hop.TheVariants.{To, No}
 use Rattle.note.specs.Marks.{no_marks}
 use Rattle.note.specs.Note.{NoteIs}
 use Rattle.note.specs.Notes.{string_bit, notes}
@@ -30,11 +27,11 @@ unfoldable pub plain_size : (v flags : ℕ) → ℕ
 plain_size v flags = size_without v + pick (has flags 0x10) 1 0
 
 -- fretted, without a duration, effects and fingers
-unfoldable pub hop_note : List ℕ → (v : ℕ) → Hop → Hop
-hop_note s v No = No
-hop_note s v (To at) = pick (eqb (bit_and (get_or s at 0) 0xA9) 0x20) (To (at + plain_size v (get_or s at 0))) No
+unfoldable pub hop_note : List ℕ → (v : ℕ) → Option ℕ → Option ℕ
+hop_note s v None = None
+hop_note s v (Some at) = pick (eqb (bit_and (get_or s at 0) 0xA9) 0x20) (Some (at + plain_size v (get_or s at 0))) None
 
-unfoldable pub hop_times : List ℕ → (v n : ℕ) → Hop → Hop
+unfoldable pub hop_times : List ℕ → (v n : ℕ) → Option ℕ → Option ℕ
 hop_times s v zero h = h
 hop_times s v (suc n) h = hop_times s v n (hop_note s v h)
 
@@ -47,22 +44,18 @@ unfoldable pub string_count : ℕ → ℕ
 string_count mask = count_from 7 0 mask
 
 -- seven notes have at most 35 bytes: only where all of these are there
-unfoldable pub hop_notes : List ℕ → (from v strings : ℕ) → Hop
-hop_notes s from v strings = pick (leb (from + 35) (length s)) (hop_times s v (string_count strings) (To from)) No
-
-abbrev pub is_hop : Hop → Bool
-is_hop (To next) = true
-is_hop No = false
+unfoldable pub hop_notes : List ℕ → (from v strings : ℕ) → Option ℕ
+hop_notes s from v strings = pick (leb (from + 35) (length s)) (hop_times s v (string_count strings) (Some from)) None
 
 -- ---- what it hops over
 pub record Hopped (v strings : ℕ) (s : List ℕ) (from next : ℕ) : Type 0 where
-  pub told : hop_notes s from v strings ≡ To next
+  pub told : hop_notes s from v strings ≡ Some next
   pub over : List NoteIs
-  pub reads : Arrives (notes v strings) s from over (At next)
+  pub reads : Arrives (notes v strings) s from over (Ok next)
   pub near : next ≤ from + 35
   pub unmarked : AllUnmarked over
   pub seven : length over ≡ 7
 
-pub record Hops (v strings : ℕ) (s : List ℕ) (from : ℕ) (r : Hop) : Type 0 where
-  pub to : (next : ℕ) → r ≡ To next → Hopped v strings s from next
-  pub not : r ≡ No → hop_notes s from v strings ≡ No
+pub record Hops (v strings : ℕ) (s : List ℕ) (from : ℕ) (r : Option ℕ) : Type 0 where
+  pub to : (next : ℕ) → r ≡ Some next → Hopped v strings s from next
+  pub not : r ≡ None → hop_notes s from v strings ≡ None

@@ -1,22 +1,16 @@
 -- What the words of a note mean. Each of its bytes stands in a word of its own, as the file has it, in the file's order; the
 -- definitions of the format say what is made of them.
-use Rattle.std.specs.Prelude.{ℕ, zero, suc, ◌+◌, ◌*◌, ◌-◌, ◌/◌, ◌%◌, ◌^◌, ◌<◌, ◌≤◌, ◌≡◌, List, [], ◌∷◌, Bool, false, not, ◌||◌, get_or, eqb}
+use Rattle.std.specs.Prelude.{ℕ, zero, suc, ◌+◌, ◌*◌, ◌-◌, ◌/◌, ◌%◌, ◌^◌, ◌<◌, ◌≤◌, ◌≡◌, List, [], ◌∷◌, Bool, false, not, ◌||◌, get_or, eqb, None, Option, Some}
 use Rattle.std.specs.Int.Bits.{bit_and}
 use Rattle.std.specs.Int.Count.{count_leading_zeros}
-use Rattle.format.specs.declared.Place.{Place}
+use Rattle.format.specs.Place.{Place}
 use Rattle.format.specs.Text.{pick}
 use Rattle.format.specs.Prog.{Prog, has}
 use Rattle.format.specs.Padded.{Padded, Arrives}
 use Rattle.curve.specs.Held.{held, byte_end}
 use Rattle.curve.specs.Slide.{slide_of}
 use Rattle.curve.specs.declared.slide.SlideEffect.{SlideEffect}
-use Rattle.curve.specs.declared.level.Level.{Level}
-use Rattle.curve.specs.declared.level.Level.TheVariants.{Absent, Given}
 use Rattle.note.specs.declared.bend.Bend.{Bend}
-use Rattle.note.specs.declared.marks.GraceNote.{GraceNote}
-use Rattle.note.specs.declared.marks.GraceNote.TheVariants.{NoGrace}
-use Rattle.note.specs.declared.marks.Tremolo.{Tremolo}
-use Rattle.note.specs.declared.marks.Tremolo.TheVariants.{NoTremolo, Strokes}
 use Rattle.note.specs.declared.marks.Harmonic.{Harmonic}
 use Rattle.note.specs.declared.marks.NoteEffects.{NoteEffects}
 use Rattle.note.specs.declared.LeftHand.TheVariants.{NoFinger}
@@ -27,6 +21,7 @@ use Rattle.note.specs.Points.{bend_in}
 use Rattle.note.specs.Marks.{EffectsIs, grace_of, slide_flag, marks_of, no_marks}
 use Rattle.note.specs.Note.{NoteIs, left_hand, read_of, note_end, no_note}
 use Rattle.note.specs.Notes.{string_bit}
+use Rattle.note.specs.declared.marks.Grace.{Grace}
 
 -- ---- the places of the words, in the file's order
 abbrev pub FLAGS : ℕ
@@ -88,8 +83,8 @@ unfoldable pub byte_in : List ℕ → ℕ → ℕ
 byte_in w k = get_or w k 0 % 256
 
 -- ---- what the words mean, that start at o
-unfoldable pub dynamic_in : (flags : ℕ) → List ℕ → ℕ → Level
-dynamic_in flags w o = pick (has flags 0x10) (Given (byte_in w (o + DYNAMIC))) Absent
+unfoldable pub dynamic_in : (flags : ℕ) → List ℕ → ℕ → Option ℕ
+dynamic_in flags w o = pick (has flags 0x10) (Some (byte_in w (o + DYNAMIC))) None
 
 unfoldable pub hands_in : (flags : ℕ) → List ℕ → ℕ → Hands
 hands_in flags w o =
@@ -98,12 +93,12 @@ hands_in flags w o =
       right_lost = pick (has flags 0x80) (not_negative (byte_in w (o + RIGHT))) false;
     }
 
-unfoldable pub grace_in : (first : ℕ) → List ℕ → ℕ → GraceNote
+unfoldable pub grace_in : (first : ℕ) → List ℕ → ℕ → Option Grace
 grace_in first w o =
-    pick (has first 0x10) (grace_of (byte_in w (o + GRACE_FRET)) (byte_in w (o + TRANSITION)) (byte_in w (o + GRACE_FLAGS))) NoGrace
+    pick (has first 0x10) (grace_of (byte_in w (o + GRACE_FRET)) (byte_in w (o + TRANSITION)) (byte_in w (o + GRACE_FLAGS))) None
 
-unfoldable pub tremolo_in : (more : ℕ) → List ℕ → ℕ → Tremolo
-tremolo_in more w o = pick (has more 0x04) (Strokes (held byte_end 1 3 (byte_in w (o + SPEED)))) NoTremolo
+unfoldable pub tremolo_in : (more : ℕ) → List ℕ → ℕ → Option ℕ
+tremolo_in more w o = pick (has more 0x04) (Some (held byte_end 1 3 (byte_in w (o + SPEED)))) None
 
 unfoldable pub slide_in : (v first more : ℕ) → List ℕ → ℕ → SlideEffect
 slide_in v first more w o = pick (has more 0x08) (slide_of v (byte_in w (o + SLIDE))) (slide_flag v first)
@@ -134,7 +129,7 @@ abbrev pub effects_at : List ℕ → (v : ℕ) → List ℕ → ℕ → EffectsI
 effects_at s v w o = record { marks = marks_in v w o; bend = bend_in s (bend_at w o) }
 
 -- what stands after the fret, with what was read before
-abbrev pub end_at : List ℕ → (v flags kind : ℕ) → Level → (fret : ℕ) → List ℕ → ℕ → NoteIs
+abbrev pub end_at : List ℕ → (v flags kind : ℕ) → Option ℕ → (fret : ℕ) → List ℕ → ℕ → NoteIs
 end_at s v flags kind stored fret w o =
     record {
       read = read_of flags kind stored fret (hands_in flags w o) (byte_in w (o + TURNED)) (marks_in v w o);
@@ -221,7 +216,7 @@ pub record FillsTo {A : Type 0} (p : Prog A) (s : List ℕ) (at k : ℕ) (before
 
 -- what stands after the fret, whatever was read before
 pub record EndTo (v flags : ℕ) (s : List ℕ) (at o : ℕ) (before after : List ℕ) (to : Place) : Type 0 where
-  pub reads : (kind : ℕ) (stored : Level) (fret : ℕ) → Arrives (note_end v flags kind stored fret) s at (end_at s v flags kind stored fret after o) to
+  pub reads : (kind : ℕ) (stored : Option ℕ) (fret : ℕ) → Arrives (note_end v flags kind stored fret) s at (end_at s v flags kind stored fret after o) to
   pub below : Kept (o + LEFT) before after
 
 -- ---- what is done for each string of a set of bits, in the order of strings

@@ -1,14 +1,15 @@
-// What the words of a string's note say: a function for each field. Any number of a string will do.
+// What the words of a string's note say: a function for each field, since no number of a word stands outside. Any
+// number of a string will do.
 ghost use Rattle.std.specs.Prelude.{◌≡◌, false, ℕ, ◌+◌, ◌<◌};
 ghost use Rattle.note.specs.Marks as marking;
 ghost use Rattle.note.specs.Note as format;
 ghost use Rattle.note.specs.Words as meaning;
 
 use crate::bend::Bend;
-use crate::marks::{Grace, GraceNote, Tremolo};
+use crate::marks::Grace;
 use crate::places::Notes;
 use crate::{LeftHand, places};
-use curve::level::{Level, NoteLevel};
+use curve::level::NoteLevel;
 use curve::slide::SlideEffect;
 
 fn byte(w: &Notes, i: usize, k: usize) -> u8
@@ -105,28 +106,22 @@ pub fn vibrato(w: &Notes, i: usize) -> bool
 pub fn harmonic_lost(w: &Notes, i: usize) -> bool
     ensures { (v : ℕ) → result ≡ (meaning.read_in v w.now i).effects.harmonic_lost }
 {
-    if byte(w, i, places::MORE) & 0x10 == 0 {
-        return false;
-    }
-    byte(w, i, places::HARMONIC) != 1
+    byte(w, i, places::MORE) & 0x10 != 0 && byte(w, i, places::HARMONIC) != 1
 }
 
-pub fn tremolo(w: &Notes, i: usize) -> Tremolo
+pub fn tremolo(w: &Notes, i: usize) -> Option<u8>
     ensures { (v : ℕ) → result ≡ (meaning.read_in v w.now i).effects.tremolo }
 {
     if byte(w, i, places::MORE) & 0x04 == 0 {
-        return Tremolo::NoTremolo;
+        return None;
     }
-    Tremolo::Strokes(curve::held::tremolo_of(byte(w, i, places::SPEED)))
+    Some(curve::held::tremolo_of(byte(w, i, places::SPEED)))
 }
 
 pub fn right_hand_lost(w: &Notes, i: usize) -> bool
     ensures { (v : ℕ) → result ≡ (meaning.read_in v w.now i).right_hand_lost }
 {
-    if byte(w, i, places::FLAGS) & 0x80 == 0 {
-        return false;
-    }
-    byte(w, i, places::RIGHT) < crate::NEGATIVE_BYTE
+    byte(w, i, places::FLAGS) & 0x80 != 0 && byte(w, i, places::RIGHT) < crate::NEGATIVE_BYTE
 }
 
 fn finger_of(b: u8) -> LeftHand
@@ -150,15 +145,15 @@ pub fn left_hand(w: &Notes, i: usize) -> LeftHand
     finger_of(byte(w, i, places::LEFT))
 }
 
-fn dynamic(w: &Notes, i: usize) -> Level
+fn dynamic(w: &Notes, i: usize) -> Option<u8>
     ensures { result
         ≡ meaning.dynamic_in (meaning.byte_in w.now (meaning.start i + meaning.FLAGS)) w.now
         (meaning.start i) }
 {
     if byte(w, i, places::FLAGS) & 0x10 == 0 {
-        return Level::Absent;
+        return None;
     }
-    Level::Given(byte(w, i, places::DYNAMIC))
+    Some(byte(w, i, places::DYNAMIC))
 }
 
 pub fn level(w: &Notes, i: usize) -> NoteLevel
@@ -173,10 +168,10 @@ pub fn level(w: &Notes, i: usize) -> NoteLevel
     )
 }
 
-fn grace_of(fret: u8, transition: u8, flags: u8) -> GraceNote
+fn grace_of(fret: u8, transition: u8, flags: u8) -> Option<Grace>
     ensures { result ≡ marking.grace_of fret transition flags }
 {
-    GraceNote::Before(Grace {
+    Some(Grace {
         fret: curve::held::fret_of(fret),
         transition,
         dead: flags & 0x01 != 0,
@@ -184,11 +179,11 @@ fn grace_of(fret: u8, transition: u8, flags: u8) -> GraceNote
     })
 }
 
-pub fn grace(w: &Notes, i: usize) -> GraceNote
+pub fn grace(w: &Notes, i: usize) -> Option<Grace>
     ensures { (v : ℕ) → result ≡ (meaning.read_in v w.now i).effects.grace }
 {
     if byte(w, i, places::FIRST) & 0x10 == 0 {
-        return GraceNote::NoGrace;
+        return None;
     }
     grace_of(
         byte(w, i, places::GRACE_FRET),

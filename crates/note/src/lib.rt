@@ -1,4 +1,6 @@
 // A note: its string is known by the beat. It is read into words that are lent.
+// Tests are joined by `&` and `|` where both cost nothing: a branch that is taken by chance costs more than the second test.
+// A position is a bare `usize` with `Near n at` beside it, and a word's place another: each is one register, which a struct is not.
 #![tactic(auto)]
 
 ghost use Rattle.std.specs.Prelude.{◌+◌, ◌≤◌};
@@ -22,21 +24,22 @@ use places::{Notes, put, put_if};
 // The first byte that stands for a number below zero.
 pub const NEGATIVE_BYTE: u8 = 0x80;
 
-#[derive(Clone, Copy)]
+// No Option: three cases, and no finger is neither of the two others.
+#[derive(Clone, Copy, PartialEq, Eq)]
 pub enum LeftHand {
     NoFinger,
     Finger(u8),
     Beyond,
 }
 
-#[derive(Clone, Copy)]
+#[derive(Clone, Copy, PartialEq, Eq)]
 pub struct Hands {
     pub left: LeftHand,
     pub right_lost: bool,
 }
 
 // A note but for its bend, as the format's definitions have it.
-#[derive(Clone, Copy)]
+#[derive(Clone, Copy, PartialEq, Eq)]
 pub struct NoteRead {
     pub fret: u8,
     pub tie: bool,

@@ -11,7 +11,7 @@ use crate::places::{Notes, put, put_if, store};
 use curve::slide::SlideEffect;
 use format::Place;
 
-#[derive(Clone, Copy)]
+#[derive(Clone, Copy, PartialEq, Eq)]
 pub struct Grace {
     pub fret: u8,
     pub transition: u8,
@@ -19,29 +19,18 @@ pub struct Grace {
     pub on_beat: bool,
 }
 
-#[derive(Clone, Copy)]
-pub enum GraceNote {
-    NoGrace,
-    Before(Grace),
-}
-
-#[derive(Clone, Copy)]
-pub enum Tremolo {
-    NoTremolo,
-    Strokes(u8),
-}
-
-#[derive(Clone, Copy)]
+// Two answers that are asked alone: neither guards the other.
+#[derive(Clone, Copy, PartialEq, Eq)]
 pub struct Harmonic {
     pub given: bool,
     pub lost: bool,
 }
 
 // The effects of a note but for its bend, as the format's definitions have them.
-#[derive(Clone, Copy)]
+#[derive(Clone, Copy, PartialEq, Eq)]
 pub struct NoteEffects {
-    pub grace: GraceNote,
-    pub tremolo: Tremolo,
+    pub grace: Option<Grace>,
+    pub tremolo: Option<u8>,
     pub slide: SlideEffect,
     pub harmonic: bool,
     pub harmonic_lost: bool,
@@ -63,11 +52,10 @@ fn bend_at(s: &[u8], at: usize, first: u8, w: &mut Notes, o: usize) -> Place
     if first & 0x01 == 0 {
         return from;
     }
-    let read = crate::bend::read_bend(s, from);
-    let bend = read.bend;
+    let (bend, next) = crate::bend::read_bend(s, from)?;
     store(w, o + places::BEND_START, bend.start);
     store(w, o + places::BEND_COUNT, bend.count as usize);
-    read.next
+    Ok(next)
 }
 
 fn grace_at(s: &[u8], at: usize, v: u32, first: u8, w: &mut Notes, o: usize) -> usize
@@ -140,7 +128,7 @@ pub(crate) fn effects_at(s: &[u8], at: usize, v: u32, flags: u8, w: &mut Notes, 
     let at = put_if(s, at + 1, 400 <= v, w, o + places::MORE);
     let more = places::byte_of(w, o + places::MORE);
     let next = bend_at(s, at, first, w, o);
-    let Place::At(past) = next else {
+    let Ok(past) = next else {
         return next;
     };
     bin::ahead::reached(s, marks_at(s, past, v, first, more, w, o))

@@ -1,4 +1,5 @@
 -- Every row of a file that is read carries the bytes of its own beat, and these rise.
+use Rattle.std.specs.Prelude.{Option}
 use Prim.Native.Nat.{ℕ, ◌≤◌, ◌<◌}
 use native.Mathlib.Omega.{arith}
 use mathlib.Core.Logic.{inl, inr}
@@ -19,7 +20,6 @@ use Rattle.beat.specs.Beat as B
 use Rattle.beat.specs.Beat.{BeatIs}
 use Rattle.score.specs.declared.Fretboard.{Fretboard}
 use Rattle.score.specs.declared.Part.{Part}
-use Rattle.score.specs.declared.Remembered.{Remembered}
 use Rattle.score.specs.declared.Voice.{Voice}
 use Rattle.score.specs.Sounding.{Sounding, sounding, remember}
 use Rattle.score.specs.Members.{Keyed, Graced, in_order, graces}
@@ -40,7 +40,7 @@ abbrev Any : Row → Type 0
 Any r = Unit {0}
 
 module _ (s : List ℕ) (v at n : ℕ) (b : BeatIs) (read : run (B.beat v) s at ≡ ok b n) (f : BeatFacts s at b n)
-    (kept : b.head.kept ≡ true) (place : RowPlace) (board : Fretboard) (frets : List Remembered) (flat : Bool)
+    (kept : b.head.kept ≡ true) (place : RowPlace) (board : Fretboard) (frets : List (Option ℕ)) (flat : Bool)
     (running : ℕ) where
   abbrev xs : List Keyed
   xs = in_order board (sounding board frets b)

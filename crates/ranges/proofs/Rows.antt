@@ -1,4 +1,5 @@
 -- Rows one after another whose bytes rise: how they stay so while rows are added and neighbours change them.
+use Rattle.std.specs.Prelude.{None, Option, Some}
 use Prim.Native.Nat.{ℕ, zero, suc, ◌+◌, ◌≤◌, ◌<◌}
 use native.Mathlib.Omega.{arith}
 use mathlib.Core.Logic.{inl, inr}
@@ -15,9 +16,7 @@ use Rattle.model.specs.declared.Technique.TheVariants.{PullOff}
 use Rattle.entries.specs.Changed.{with_technique, with_ottava_end}
 use Rattle.beat.specs.Beat.{BeatIs}
 use Rattle.score.specs.declared.Hammer.{Hammer}
-use Rattle.score.specs.declared.Hammer.TheVariants.{NoHammer, Waits}
 use Rattle.score.specs.declared.OttavaRun.{OttavaRun}
-use Rattle.score.specs.declared.OttavaRun.TheVariants.{NoRun, Over}
 use Rattle.score.specs.Rows.{RowIs}
 use Rattle.score.specs.Page.{pulls, under, same_kind, turn_hammer, turn_run}
 use Rattle.score.specs.Score.{lists}
@@ -190,20 +189,20 @@ module _ (s : List ℕ) (v at : ℕ) (next : Row) (r : RowIs) where
   abbrev Ready : List Row → Type 0
   Ready rs = Risen s v at (λ q. Follows q next) rs
 
-  hammer_risen : (h : Hammer) (rs : List Row) → Ready rs → Ready (turn_hammer lists h r rs)
-  hammer_risen NoHammer rs f = f
-  hammer_risen (Waits i key) rs f =
-      pick_both Ready (pulls r key) (lists.pull_off i rs) rs
-      (changed_risen _ pull_off s v at _ (λ q. changed_first _ pull_off q next) rs i f) f
+  hammer_risen : (h : Option Hammer) (rs : List Row) → Ready rs → Ready (turn_hammer lists h r rs)
+  hammer_risen None rs f = f
+  hammer_risen (Some w) rs f =
+      pick_both Ready (pulls r w.key) (lists.pull_off w.row rs) rs
+      (changed_risen _ pull_off s v at _ (λ q. changed_first _ pull_off q next) rs w.row f) f
 
-  run_risen : (o : OttavaRun) (rs : List Row) → Ready rs → Ready (turn_run lists o r rs)
-  run_risen NoRun rs f = f
-  run_risen (Over i kind) rs f =
-      pick_both Ready (under r && same_kind r (Over i kind)) (lists.carry_on i rs) rs
-      (changed_risen _ carry_on s v at _ (λ q. changed_first _ carry_on q next) rs i f) f
+  run_risen : (o : Option OttavaRun) (rs : List Row) → Ready rs → Ready (turn_run lists o r rs)
+  run_risen None rs f = f
+  run_risen (Some o) rs f =
+      pick_both Ready (under r && same_kind r (Some o)) (lists.carry_on o.row rs) rs
+      (changed_risen _ carry_on s v at _ (λ q. changed_first _ carry_on q next) rs o.row f) f
 
   -- and the next row itself
-  pub row_risen : (h : Hammer) (o : OttavaRun) (rs : List Row) (P : Row → Type 0) → Ready rs → Stands s v at next → P next
+  pub row_risen : (h : Option Hammer) (o : Option OttavaRun) (rs : List Row) (P : Row → Type 0) → Ready rs → Stands s v at next → P next
       → Risen s v at P (turn_run lists o r (turn_hammer lists h r rs) ++ (next ∷ []))
   row_risen h o rs P f stands p =
       let turned : List Row = turn_run lists o r (turn_hammer lists h r rs) in

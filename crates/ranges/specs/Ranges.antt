@@ -1,5 +1,5 @@
 -- Where the bytes of rows stand in the file (document 02, f), said of the finished rows.
-use Rattle.std.specs.Prelude.{ℕ, ◌+◌, ◌≤◌, ◌<◌, ◌⊎◌, ◌≡◌, Bool, true, false, List, [], ◌∷◌, ◌++◌}
+use Rattle.std.specs.Prelude.{ℕ, ◌+◌, ◌≤◌, ◌<◌, ◌⊎◌, ◌≡◌, Bool, true, false, List, [], ◌∷◌, ◌++◌, Option}
 use Rattle.format.specs.Prog.{ok, run}
 use Rattle.model.specs.declared.OttavaMarks.{OttavaMarks}
 use Rattle.model.specs.declared.Row.{Row}
@@ -10,7 +10,6 @@ use Rattle.beat.specs.Beat as B
 use Rattle.beat.specs.Beat.{BeatIs}
 use Rattle.score.specs.declared.Fretboard.{Fretboard}
 use Rattle.score.specs.declared.KeptCounts.{KeptCounts}
-use Rattle.score.specs.declared.Remembered.{Remembered}
 use Rattle.score.specs.Sounding.{sounding}
 use Rattle.score.specs.Members.{in_order}
 use Rattle.score.specs.Rows.{RowIs, rows_of}
@@ -25,7 +24,7 @@ alone r = with_technique NoTechnique (with_ottava_end false r)
 -- a row is one of those that a beat gives, on some fretboard, by some memory of frets, key and dynamic
 pub record RowOf (b : BeatIs) (r : Row) : Type 0 where
   pub board : Fretboard
-  pub frets : List Remembered
+  pub frets : List (Option ℕ)
   pub flat : Bool
   pub running : ℕ
   pub before : List RowIs

@@ -2,3 +2,4 @@ pub mod Passed
 pub mod Started
 pub mod Answered
 pub mod Result
+pub mod Lent

@@ -1,8 +1,7 @@
 -- One pass over a file, into the words of seven slices.
-use Rattle.std.specs.Prelude.{ℕ, Bool, List}
-use Rattle.format.specs.declared.Place.{Place}
-use Rattle.format.specs.declared.Place.TheVariants.{At}
-use Rattle.format.specs.Place.{Reaches}
+use Rattle.std.specs.Prelude.{ℕ, Bool, List, Result, Ok}
+use Rattle.format.specs.declared.Stop.{Stop}
+use Rattle.format.specs.Place.{ReadsAs}
 use Rattle.score.specs.declared.Tally.{Tally}
 use Rattle.score.specs.File.{Whole, file}
 use Rattle.score.specs.Page.{Staves, Walk, keeping}
@@ -12,6 +11,7 @@ use Rattle.words.specs.Counted.{passing}
 use Rattle.words.specs.Meant.{walk_of}
 use Rattle.words.specs.Heads.{staves_of}
 use Rattle.front.specs.Front.{song_of}
+use Rattle.reader.specs.declared.pass.Passed.{Passed}
 use Rattle.words.specs.Lent.{Lent, lent}
 
 -- a whole file in the slices; what the tracks left in the reader's own is written over by the beats
@@ -23,9 +23,9 @@ whole_of song programs parts losses t tally =
       bars = walk_of t.bars t.rows t.members t.points t.texts t.parts tally;
     }
 
--- from the start of the file to where the reading ends, or stops
-pub record Passes (counting : Bool) (s : List ℕ) (before after : Lent) (song : SongRead) (tally : Tally) (next : Place) : Type 0 where
+-- what is read of a file from its start to where it ends, or why reading stopped
+pub record Passes (counting : Bool) (s : List ℕ) (before after : Lent) (read : Result (Passed × ℕ) Stop) : Type 0 where
   pub programs : List (List ℕ)
   pub parts : List ℕ
   pub losses : List ℕ
-  pub reaches : Reaches (file (passing counting (keeping (words s) (lent before)))) s (At 0) (whole_of song programs parts losses after tally) next
+  pub reads : ReadsAs (λ p. whole_of p.song programs parts losses after p.tally) (file (passing counting (keeping (words s) (lent before)))) s (Ok 0) read

@@ -2,14 +2,16 @@
 #![tactic(auto)]
 
 ghost use Rattle.std.specs.Prelude.{◌≡◌};
-ghost use Rattle.format.specs.Verdict.{up_to};
 ghost use Rattle.theorems.specs.Promise.{Promise};
 ghost use Rattle.reader.specs.Answered.{tables};
+ghost use Rattle.reader.specs.Lent.{tables_of, SameTables};
 ghost use Rattle.reader.specs.Result.{result_of, FirstPass, Fills};
 
-use format::{LIMIT, Place};
+use enter::Page;
+use format::{LIMIT, Reading};
 use model::{Answer, Outcome};
 use pass::Passed;
+use walk::{Counting, Entering};
 
 mod answer; // the answer, by what the passes left
 mod pass; // one pass over a file
@@ -17,19 +19,9 @@ mod pass; // one pass over a file
 // What is remembered of a hundred tracks.
 const OWN: usize = 4200;
 
-// The first n bytes, or all.
-fn up_to(data: &[u8], n: usize) -> &[u8]
-    ensures { result.now ≡ up_to n «data».now }
-{
-    if n < data.len() {
-        return &data[..n];
-    }
-    data
-}
-
 // A pass that only counts: whether the file is read, and the rooms that it needs.
-fn first_pass(s: &[u8]) -> Passed
-    ensures { FirstPass s.now result.song result.tally result.next }
+fn first_pass(s: &[u8]) -> Reading<Passed>
+    ensures { FirstPass s.now result }
 {
     let mut bars = [0u32; 1];
     let mut tracks = [0u32; 1];
@@ -38,45 +30,52 @@ fn first_pass(s: &[u8]) -> Passed
     let mut points = [0u32; 1];
     let mut texts = [0u32; 1];
     let mut parts = [0u32; OWN];
-    pass::pass(
-        s,
-        true,
-        &mut bars,
-        &mut tracks,
-        &mut rows,
-        &mut members,
-        &mut points,
-        &mut texts,
-        &mut parts,
-    )
+    let mut page = Page {
+        bars: &mut bars,
+        rows: &mut rows,
+        members: &mut members,
+        points: &mut points,
+        texts: &mut texts,
+        parts: &mut parts,
+        tally: pass::before_beats([0u32; 17]),
+    };
+    pass::pass::<Counting>(s, &mut tracks, &mut page)
+}
+
+// The six tables that a reading is lent.
+#[derive(Drop)]
+pub(crate) struct Tables<'a> {
+    pub(crate) bars: &'a mut [u32],
+    pub(crate) tracks: &'a mut [u32],
+    pub(crate) rows: &'a mut [u32],
+    pub(crate) members: &'a mut [u32],
+    pub(crate) points: &'a mut [u32],
+    pub(crate) texts: &'a mut [u32],
 }
 
 // A pass that fills the tables, of a file that the first pass read.
-fn fill(
-    s: &[u8],
-    bars: &mut [u32],
-    tracks: &mut [u32],
-    rows: &mut [u32],
-    members: &mut [u32],
-    points: &mut [u32],
-    texts: &mut [u32],
-) -> Answer
-    ensures { let before = tables bars.old tracks.old rows.old members.old points.old texts.old in
-        let after = tables bars.new tracks.new rows.new members.new points.new texts.new in
-        Fills s.now before after result }
+fn fill(s: &[u8], lent: &mut Tables) -> Answer
+    ensures fills { Fills s.now (tables_of lent.old) (tables_of lent.new) result }
+    ensures lent { SameTables lent.old lent.new }
 {
     let mut parts = [0u32; OWN];
-    let passed = pass::pass(
-        s, false, bars, tracks, rows, members, points, texts, &mut parts,
-    );
-    let at = passed.next;
-    let Place::At(used) = at else {
+    let mut page = Page {
+        bars: lent.bars,
+        rows: lent.rows,
+        members: lent.members,
+        points: lent.points,
+        texts: lent.texts,
+        parts: &mut parts,
+        tally: pass::before_beats([0u32; 17]),
+    };
+    let read = pass::pass::<Entering>(s, lent.tracks, &mut page);
+    let Ok((passed, used)) = read else {
         return model::answers::refused(Outcome::Truncated);
     };
-    answer::answer_of(passed, used, bars)
+    answer::answer_of(passed, used, lent)
 }
 
-// Reads a file into six tables, which are lent as words: any bytes and any tables.
+// Reads a file into six tables, which are lent as words: any bytes and any tables. Six slices, as C and the call in README.md lend them.
 pub fn read(
     data: &[u8],
     bars: &mut [u32],
@@ -90,18 +89,24 @@ pub fn read(
         let after = result_of result bars.new tracks.new rows.new members.new points.new texts.new in
         Promise «data».now before after }
 {
-    let s = up_to(data, LIMIT);
-    let first = first_pass(s);
-    let at = first.next;
-    if let Place::Stopped(stop) = at {
-        return model::answers::refused(answer::refusal_of(stop, LIMIT < data.len()));
-    }
-    let song = first.song;
-    let tally = first.tally;
-    let counts = song.counts;
-    let rooms = answer::rooms_of(counts, tally);
-    if !answer::has_room(rooms, bars, tracks, rows, members, points, texts) {
+    let s = verdict::up_to(data, LIMIT);
+    let first = match first_pass(s) {
+        Ok((first, _)) => first,
+        Err(stop) => {
+            return model::answers::refused(verdict::refusal_of(stop, LIMIT < data.len()));
+        },
+    };
+    let mut lent = Tables {
+        bars,
+        tracks,
+        rows,
+        members,
+        points,
+        texts,
+    };
+    let rooms = answer::rooms_of(first.song.counts, first.tally);
+    if !answer::has_room(rooms, &lent) {
         return model::answers::no_room(rooms);
     }
-    fill(s, bars, tracks, rows, members, points, texts)
+    fill(s, &mut lent)
 }

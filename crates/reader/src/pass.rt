@@ -1,19 +1,21 @@
 // One pass over a file: the song, the headers, the tracks and the bars.
 ghost use Rattle.std.specs.Prelude.{◌≡◌, ◌≤◌, length};
-ghost use Rattle.words.specs.Lent.{lent_of};
+ghost use Rattle.enter.specs.Pages.{SamePage};
 ghost use Rattle.reader.specs.Passed.{Passes};
+ghost use Rattle.reader.specs.Lent.{lent_by};
 ghost use Rattle.reader.specs.Started as started;
 
-use format::Place;
-use front::SongRead;
+use enter::Page;
+use format::Reading;
+use front::{Heads, SongRead};
 use model::{Key, Mode, Time};
 use score::{Before, KeptCounts, Tally};
+use walk::Pass;
 
 #[derive(Clone, Copy)]
 pub struct Passed {
     pub song: SongRead,
     pub tally: Tally,
-    pub next: Place,
 }
 
 const COMMON_TIME: Time = Time {
@@ -31,7 +33,7 @@ fn before_bars() -> Before
     }
 }
 
-fn before_beats(losses: [u32; 17]) -> Tally
+pub(crate) fn before_beats(losses: [u32; 17]) -> Tally
     ensures { result ≡ started.before_beats losses }
 {
     Tally {
@@ -48,64 +50,32 @@ fn before_beats(losses: [u32; 17]) -> Tally
     }
 }
 
-// The words of `parts` are those of a hundred tracks, and a file has no more.
-pub(crate) fn pass(
-    s: &[u8],
-    counting: bool,
-    bars: &mut [u32],
-    tracks: &mut [u32],
-    rows: &mut [u32],
-    members: &mut [u32],
-    points: &mut [u32],
-    texts: &mut [u32],
-    parts: &mut [u32],
-) -> Passed
-    requires { 4200 ≤ length parts.old }
-    ensures { let before = lent_of bars.old tracks.old rows.old members.old
-        points.old texts.old parts.old in
-        let after = lent_of bars.new tracks.new rows.new members.new
-        points.new texts.new parts.new in
-        Passes counting s.now before after result.song result.tally result.next }
+// The page has the words of a hundred tracks, and a file has no more.
+pub(crate) fn pass<P: Pass>(s: &[u8], tracks: &mut [u32], page: &mut Page) -> Reading<Passed>
+    requires { 4200 ≤ length page.old.parts.now }
+    ensures passes { let before = lent_by tracks.old page.old in
+        let after = lent_by tracks.new page.new in
+        Passes P.counting s.now before after result }
+    ensures lent { SamePage page.old page.new }
 {
     let mut programs = [[0u8; 16]; 4];
-    let song = front::song_at(s, Place::At(0), &mut programs);
+    let (song, at) = front::song_at(s, Ok(0), &mut programs)?;
     let v = song.version;
-    let at = song.next;
     let counts = song.counts;
     let numbers = song.directions;
     let lost = into_losses::song_losses(song.swing, numbers);
-    let heads = front::headers(
-        s,
-        at,
-        v,
-        numbers,
-        counts.bars,
-        COMMON_TIME,
-        before_bars(),
-        lost,
-        bars,
-    );
-    let at = heads.next;
-    let lost = heads.losses;
-    let staves = front::all_tracks(s, at, v, programs, counts.tracks, lost, tracks, parts);
-    let at = staves.next;
-    let lost = staves.losses;
-    let walked = walk::all_bars(
-        s,
-        at,
-        v,
-        counting,
-        counts.bars,
-        counts.tracks,
-        before_beats(lost),
-        bars,
-        rows,
-        members,
-        points,
-        texts,
-        parts,
-    );
-    let tally = walked.tally;
-    let next = walked.next;
-    Passed { song, tally, next }
+    let mut heads = Heads {
+        time: COMMON_TIME,
+        before: before_bars(),
+        losses: lost,
+    };
+    let bars = counts.bars;
+    let at = front::headers(s, Ok(at), v, numbers, bars, &mut heads, page.bars);
+    let mut lost = heads.losses;
+    let count = counts.tracks;
+    let at = front::all_tracks(s, at, v, programs, count, &mut lost, tracks, page.parts);
+    page.tally = before_beats(lost);
+    let at = walk::all_bars::<P>(page, s, at, v, bars, count)?;
+    let tally = page.tally;
+    Ok((Passed { song, tally }, at))
 }

@@ -1,4 +1,5 @@
 -- What the words of the tables show of the lists of entries: while headers, while tracks and while beats are added.
+use Rattle.std.specs.Prelude.{None, Option, Some}
 use Prim.Native.Nat.{ℕ, ◌+◌, ◌*◌, ◌≤◌, ◌<◌}
 use mathlib.Core.Path.{◌≡◌}
 use mathlib.Core.List.{List}
@@ -6,9 +7,7 @@ use lib.ListN.{length}
 use Rattle.entries.proofs.Fits.{BarFits}
 use Rattle.entries.specs.Words.{bar_stride, row_stride, member_stride, point_stride, text_stride}
 use Rattle.score.specs.declared.Hammer.{Hammer}
-use Rattle.score.specs.declared.Hammer.TheVariants.{NoHammer, Waits}
 use Rattle.score.specs.declared.OttavaRun.{OttavaRun}
-use Rattle.score.specs.declared.OttavaRun.TheVariants.{NoRun, Over}
 use Rattle.score.specs.declared.Part.{Part}
 use Rattle.score.specs.declared.Voice.{Voice}
 use Rattle.score.specs.File.{Opening}
@@ -25,21 +24,21 @@ use Rattle.refine.proofs.Shown.{shown}
 -- ---- a voice that remembers no row and no member, and one whose numbers are of rows and members that are there
 
 pub record FreshVoice (v : Voice) : Type 0 where
-  pub hammer : v.hammer ≡ NoHammer
+  pub hammer : v.hammer ≡ None
   pub last : v.last ≡ record { first = 0; count = 0 }
-  pub run : v.run ≡ NoRun
+  pub run : v.run ≡ None
 
 pub record FreshPart (p : Part) : Type 0 where
   pub first : FreshVoice p.first
   pub second : FreshVoice p.second
 
-abbrev pub HammerWithin : ℕ → Hammer → Type 0
-HammerWithin bound NoHammer = Unit {0}
-HammerWithin bound (Waits n key) = n < bound
+abbrev pub HammerWithin : ℕ → Option Hammer → Type 0
+HammerWithin bound None = Unit {0}
+HammerWithin bound (Some w) = w.row < bound
 
-abbrev pub RunWithin : ℕ → OttavaRun → Type 0
-RunWithin bound NoRun = Unit {0}
-RunWithin bound (Over n kind) = n < bound
+abbrev pub RunWithin : ℕ → Option OttavaRun → Type 0
+RunWithin bound None = Unit {0}
+RunWithin bound (Some o) = o.row < bound
 
 pub record VoiceWithin (rows members : ℕ) (v : Voice) : Type 0 where
   pub hammer : HammerWithin rows v.hammer

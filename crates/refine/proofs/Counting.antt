@@ -1,5 +1,6 @@
 -- A pass that only counts beside one that enters: it stops where that stops and for the same reason, and where that comes
 -- to its end it has counted the same rows and members and the same rooms.
+use Rattle.std.specs.Prelude.{None, Option, Some}
 use Prim.Native.Nat.{ℕ, zero, suc, ◌+◌, ◌*◌, ◌≤◌, ◌<◌}
 use mathlib.Core.Path.{◌≡◌, refl, ap, sym, ◌∙◌}
 use mathlib.Core.Bool.{Bool, true, false}
@@ -16,17 +17,12 @@ use Rattle.format.specs.Prog.{Res, ok, stopped, run}
 use Rattle.format.specs.Text.{pick}
 use Rattle.format.specs.Yields.{Bytes}
 use Rattle.model.specs.declared.RowPlace.{RowPlace}
-use Rattle.note.specs.declared.marks.GraceNote.{GraceNote}
-use Rattle.note.specs.declared.marks.GraceNote.TheVariants.{NoGrace, Before}
 use Rattle.note.specs.Note.{NoteIs, no_note}
 use Rattle.beat.specs.Beat.{BeatIs}
 use Rattle.score.specs.declared.Fretboard.{Fretboard}
 use Rattle.score.specs.declared.Hammer.{Hammer}
-use Rattle.score.specs.declared.Hammer.TheVariants.{NoHammer, Waits}
 use Rattle.score.specs.declared.KeptCounts.{KeptCounts}
 use Rattle.score.specs.declared.OttavaRun.{OttavaRun}
-use Rattle.score.specs.declared.OttavaRun.TheVariants.{NoRun, Over}
-use Rattle.score.specs.declared.Remembered.{Remembered}
 use Rattle.score.specs.declared.Voice.{Voice}
 use Rattle.score.specs.File.{file}
 use Rattle.format.proofs.Verdict.{upto_bytes}
@@ -43,6 +39,7 @@ use Rattle.refine.proofs.Heard.{length-remember}
 use Rattle.refine.proofs.Passes.{one_pass}
 use Rattle.words.specs.Left.{needed_by}
 use Rattle.refine.proofs.Rooms.{WordScore}
+use Rattle.note.specs.declared.marks.Grace.{Grace}
 
 -- ---- how many notes of a beat sound, and how many graces: a sum over them, in whatever order
 
@@ -64,7 +61,7 @@ module _ (each : NoteIs → ℕ) where
   sum-ordered done [] = omega arith
   sum-ordered done (x ∷ xs) = omega (arith, sum-ordered (put_in x done) xs, sum-place x done)
 
-  module _ (board : Fretboard) (memory : List Remembered) (b : BeatIs) where
+  module _ (board : Fretboard) (memory : List (Option ℕ)) (b : BeatIs) where
     sum-from : (k i : ℕ) (ns : List NoteIs) → length ns ≡ k → ((j : ℕ) → get_or b.notes (i + j) no_note ≡ get_or ns j no_note)
         → sum (map (keyed board) (sounding_from k i board memory b)) ≡ heard each b.strings board.strings.count i ns
     sum-from zero i [] e h = refl
@@ -97,9 +94,9 @@ count_all : (xs : List Keyed) → length xs ≡ sum one_note xs
 count_all [] = refl
 count_all (x ∷ xs) = omega (arith, count_all xs)
 
-count_graced : (g : GraceNote) (x : Keyed) (gs : List Graced) → length (graced_after g x gs) ≡ one_grace g + length gs
-count_graced NoGrace x gs = omega arith
-count_graced (Before g) x gs = omega arith
+count_graced : (g : Option Grace) (x : Keyed) (gs : List Graced) → length (graced_after g x gs) ≡ one_grace g + length gs
+count_graced None x gs = omega arith
+count_graced (Some g) x gs = omega arith
 
 count_graces : (xs : List Keyed) → length (graces xs) ≡ sum grace_of xs
 count_graces [] = refl
@@ -145,13 +142,13 @@ sets_above t at (a ∷ u) j h =
     sets_above (set t at a) (suc at) u j (omega arith)
     ∙ get_or-set_other t at j a 0 (λ e. absurd (omega arith))
 
-hammer_long : (h : Hammer) → length (hammer_words h) ≡ 3
-hammer_long NoHammer = refl
-hammer_long (Waits n key) = refl
+hammer_long : (h : Option Hammer) → length (hammer_words h) ≡ 3
+hammer_long None = refl
+hammer_long (Some w) = refl
 
-run_long : (r : OttavaRun) → length (run_words r) ≡ 3
-run_long NoRun = refl
-run_long (Over n kind) = refl
+run_long : (r : Option OttavaRun) → length (run_words r) ≡ 3
+run_long None = refl
+run_long (Some o) = refl
 
 voice_long : (v : Voice) → length v.frets ≡ 7 → length (voice_words v) ≡ 15
 unfolding voice_words

@@ -1,6 +1,7 @@
 -- The sounding notes of a beat: at most seven, each on a string of its track, its fret and its key bytes, its bend
 -- within the beat's room for points. What is remembered of them, the running dynamic after them, and how many losses
 -- they report.
+use Rattle.std.specs.Prelude.{None, Option, Some}
 use Prim.Native.Nat.{ℕ, zero, suc, ◌+◌, ◌*◌, ◌≤◌, ◌<◌}
 use mathlib.Core.Path.{◌≡◌, refl, ◌∙◌}
 use mathlib.Core.Bool.{Bool, true, false, ◌&&◌, false≢true}
@@ -12,21 +13,14 @@ use lib.Dec.{ltb, eqb}
 use lib.ListN.{length, get_or, set, length-append, length-set, length-map}
 use Rattle.format.specs.Text.{pick}
 use Rattle.model.specs.declared.Loss.{Loss}
-use Rattle.curve.specs.declared.level.Level.{Level}
-use Rattle.curve.specs.declared.level.Level.TheVariants.{Absent, Given}
 use Rattle.curve.specs.Key.{note_key, percussion_key}
 use Rattle.curve.specs.Level.{forte, later, last_given, all_emphasised, chord_of, level_or, chord_level, level_after}
-use Rattle.note.specs.declared.marks.GraceNote.{GraceNote}
-use Rattle.note.specs.declared.marks.GraceNote.TheVariants.{NoGrace, Before}
 use Rattle.note.specs.declared.NoteRead.{NoteRead}
 use Rattle.format.specs.Prog.{has}
 use Rattle.note.specs.Note.{NoteIs, no_note}
 use Rattle.note.specs.Notes.{string_bit}
 use Rattle.beat.specs.Beat.{BeatIs}
 use Rattle.score.specs.declared.Fretboard.{Fretboard}
-use Rattle.score.specs.declared.LastFret.{LastFret}
-use Rattle.score.specs.declared.LastFret.TheVariants.{NoFret, Fret}
-use Rattle.score.specs.declared.Remembered.{Remembered}
 use Rattle.score.specs.Sounding.{Sounding, nothing, fret_of, sounds, sounding_at, sounding_from, sounding, remember}
 use Rattle.score.specs.Members.{Keyed, keyed, put_in, ordered, in_order, Graced, graced_after, graces}
 use Rattle.score.specs.Rows.{levels}
@@ -35,8 +29,9 @@ use Rattle.score.specs.Losses.{building_losses}
 use Rattle.score.specs.Page.{Kind, Operations, bend_room, bend_rooms, running_after, beat_losses}
 use Rattle.score.proofs.Facts.{LevelFits, NoteFits}
 use Rattle.refine.proofs.All.{All, all_get_d, all_set}
-use Rattle.refine.proofs.Parts.{LastFits, FretFits}
+use Rattle.refine.proofs.Parts.{LastFits}
 use Rattle.refine.proofs.Shown.{pick_both}
+use Rattle.note.specs.declared.marks.Grace.{Grace}
 
 pub record SoundFits (board : Fretboard) (room : ℕ) (x : Sounding) : Type 0 where
   pub string : x.string < board.strings.count
@@ -54,9 +49,9 @@ both : (a b : Bool) → (a && b) ≡ true → (a ≡ true) × (b ≡ true)
 both true b e = (refl, e)
 both false b e = absurd (false≢true e)
 
-fret_fits : (l : LastFret) (n : NoteRead) → LastFits l → n.fret ≤ 99 → fret_of l n < 256
-fret_fits NoFret n f h = omega arith
-fret_fits (Fret x) n f h = pick_both (λ k. k < 256) n.tie x n.fret f (omega arith)
+fret_fits : (l : Option ℕ) (n : NoteRead) → LastFits l → n.fret ≤ 99 → fret_of l n < 256
+fret_fits None n f h = omega arith
+fret_fits (Some x) n f h = pick_both (λ k. k < 256) n.tie x n.fret f (omega arith)
 
 -- the bend of a note that is read is within the room of all
 bend_within : (strings k : ℕ) (ns : List NoteIs) (i j : ℕ) → j ≡ k + i → has strings (string_bit j) ≡ true
@@ -69,7 +64,7 @@ bend_within strings k (n ∷ ns) zero j e h =
     rw here (omega arith)
 bend_within strings k (n ∷ ns) (suc i) j e h = omega (arith, bend_within strings (k + 1) ns i j (omega arith) h)
 
-module _ (board : Fretboard) (memory : List Remembered) (b : BeatIs) (f : All FretFits memory)
+module _ (board : Fretboard) (memory : List (Option ℕ)) (b : BeatIs) (f : All LastFits memory)
     (each : (i : ℕ) → NoteFits (get_or b.notes i no_note)) where
   abbrev room : ℕ
   room = bend_rooms b.strings 0 b.notes
@@ -79,7 +74,7 @@ module _ (board : Fretboard) (memory : List Remembered) (b : BeatIs) (f : All Fr
       let h = both (has b.strings (string_bit i)) (ltb i board.strings.count) e in
       record {
         string = ltb-true i board.strings.count h.1;
-        fret = fret_fits (get_or memory i nothing).fret _ (all_get_d FretFits memory i nothing f tt) (each i).fret;
+        fret = fret_fits (get_or memory i nothing) _ (all_get_d LastFits memory i nothing f tt) (each i).fret;
         bend = bend_within b.strings 0 b.notes i i (omega arith) h.0;
         note = each i;
       }
@@ -100,7 +95,7 @@ module _ (board : Fretboard) (memory : List Remembered) (b : BeatIs) (f : All Fr
   unfolding sounding
   sounding_fits = from_fits 7 0
 
-module _ (board : Fretboard) (memory : List Remembered) (b : BeatIs) where
+module _ (board : Fretboard) (memory : List (Option ℕ)) (b : BeatIs) where
   from_number : (k i : ℕ) → length (sounding_from k i board memory b) ≤ k
   from_number zero i = omega arith
   from_number (suc k) i =
@@ -114,16 +109,16 @@ module _ (board : Fretboard) (memory : List Remembered) (b : BeatIs) where
 
 -- ---- what is remembered
 
-pub length-remember : (memory : List Remembered) (xs : List Sounding) → length (remember memory xs) ≡ length memory
+pub length-remember : (memory : List (Option ℕ)) (xs : List Sounding) → length (remember memory xs) ≡ length memory
 length-remember memory [] = refl
 length-remember memory (x ∷ xs) = length-remember (set memory x.string _) xs ∙ length-set memory x.string _
 
-pub remember_fits : (board : Fretboard) (room : ℕ) (memory : List Remembered) (xs : List Sounding)
-    → All FretFits memory → All (SoundFits board room) xs → All FretFits (remember memory xs)
+pub remember_fits : (board : Fretboard) (room : ℕ) (memory : List (Option ℕ)) (xs : List Sounding)
+    → All LastFits memory → All (SoundFits board room) xs → All LastFits (remember memory xs)
 remember_fits board room memory [] f q = f
 remember_fits board room memory (x ∷ xs) f q =
     remember_fits board room (set memory x.string _) xs
-    (all_set FretFits memory x.string (record { fret = Fret x.fret }) f q.0.fret) q.1
+    (all_set LastFits memory x.string (Some x.fret) f q.0.fret) q.1
 
 -- ---- in the order of their keys
 
@@ -179,9 +174,9 @@ pub length-graces : (xs : List Keyed) → length (graces xs) ≤ length xs
 length-graces [] = omega arith
 length-graces (x ∷ xs) = go x.sound.note.read.effects.grace (length-graces xs)
   where
-    go : (g : GraceNote) → length (graces xs) ≤ length xs → length (graced_after g x (graces xs)) ≤ suc (length xs)
-    go NoGrace h = omega arith
-    go (Before g) h = omega arith
+    go : (g : Option Grace) → length (graces xs) ≤ length xs → length (graced_after g x (graces xs)) ≤ suc (length xs)
+    go None h = omega arith
+    go (Some g) h = omega arith
 
 module _ (P : Keyed → Type 0) where
   abbrev pub Noted : Graced → Type 0
@@ -191,15 +186,15 @@ module _ (P : Keyed → Type 0) where
   graces_all [] q = tt
   graces_all (x ∷ xs) q = go x.sound.note.read.effects.grace (graces_all xs q.1)
     where
-      go : (g : GraceNote) → All Noted (graces xs) → All Noted (graced_after g x (graces xs))
-      go NoGrace h = h
-      go (Before g) h = (q.0, h)
+      go : (g : Option Grace) → All Noted (graces xs) → All Noted (graced_after g x (graces xs))
+      go None h = h
+      go (Some g) h = (q.0, h)
 
 -- ---- the running dynamic
 
-later_fits : (l m : Level) → LevelFits l → LevelFits m → LevelFits (later l m)
-later_fits l Absent p q = p
-later_fits l (Given n) p q = q
+later_fits : (l m : Option ℕ) → LevelFits l → LevelFits m → LevelFits (later l m)
+later_fits l None p q = p
+later_fits l (Some n) p q = q
 
 last_fits : (board : Fretboard) (room : ℕ) (xs : List Keyed) → All (KeyedFits board room) xs
     → LevelFits (last_given (levels xs))
@@ -208,9 +203,9 @@ last_fits board room (x ∷ xs) q =
     later_fits x.sound.note.read.level.given (last_given (levels xs)) q.0.sound.note.level
     (last_fits board room xs q.1)
 
-level_or_fits : (l : Level) (n : ℕ) → LevelFits l → n < 256 → level_or l n < 256
-level_or_fits Absent n f h = h
-level_or_fits (Given x) n f h = omega arith
+level_or_fits : (l : Option ℕ) (n : ℕ) → LevelFits l → n < 256 → level_or l n < 256
+level_or_fits None n f h = h
+level_or_fits (Some x) n f h = omega arith
 
 cond_fits : (t : Bool) (a : ℕ) → a < 256 → pick t a forte < 256
 cond_fits true a h = h

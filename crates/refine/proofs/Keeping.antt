@@ -1,5 +1,6 @@
 -- Rows that are kept one after another: how many entries there are then, what the voice remembers, and that words show
 -- it.
+use Rattle.std.specs.Prelude.{None, Option, Some}
 use Prim.Native.Nat.{ℕ, ◌+◌, ◌*◌, ◌≤◌}
 use mathlib.Core.Path.{◌≡◌, refl, sym, ◌∙◌}
 use mathlib.Core.Bool.{◌&&◌}
@@ -15,9 +16,7 @@ use Rattle.model.specs.declared.RowKind.TheVariants.{Grace, Beat}
 use Rattle.model.specs.declared.Span.{Span}
 use Rattle.entries.specs.Words.{member_stride}
 use Rattle.score.specs.declared.Hammer.{Hammer}
-use Rattle.score.specs.declared.Hammer.TheVariants.{NoHammer, Waits}
 use Rattle.score.specs.declared.OttavaRun.{OttavaRun}
-use Rattle.score.specs.declared.OttavaRun.TheVariants.{NoRun, Over}
 use Rattle.score.specs.declared.Voice.{Voice}
 use Rattle.score.specs.Rows.{RowIs}
 use Rattle.score.specs.Page.{rows, members, points, Rowing, span_of, fingered, marked, pulls, first_key, hammer_after}
@@ -36,16 +35,16 @@ use Rattle.refine.proofs.Shown.{shown, pick_shows, pick_both, add_shows, add_all
 
 -- ---- how many entries there are
 
-length_hammer : (h : Hammer) (r : RowIs) (rs : List Row) → length (turn_hammer lists h r rs) ≡ length rs
-length_hammer NoHammer r rs = refl
-length_hammer (Waits n key) r rs =
-    pick_both (λ l. length l ≡ length rs) (pulls r key) (lists.pull_off n rs) rs (length-pull_off n rs) refl
+length_hammer : (h : Option Hammer) (r : RowIs) (rs : List Row) → length (turn_hammer lists h r rs) ≡ length rs
+length_hammer None r rs = refl
+length_hammer (Some w) r rs =
+    pick_both (λ l. length l ≡ length rs) (pulls r w.key) (lists.pull_off w.row rs) rs (length-pull_off w.row rs) refl
 
-length_run : (h : OttavaRun) (r : RowIs) (rs : List Row) → length (turn_run lists h r rs) ≡ length rs
-length_run NoRun r rs = refl
-length_run (Over n kind) r rs =
-    pick_both (λ l. length l ≡ length rs) (under r && same_kind r (Over n kind)) (lists.carry_on n rs) rs
-    (length-carry_on n rs) refl
+length_run : (h : Option OttavaRun) (r : RowIs) (rs : List Row) → length (turn_run lists h r rs) ≡ length rs
+length_run None r rs = refl
+length_run (Some o) r rs =
+    pick_both (λ l. length l ≡ length rs) (under r && same_kind r (Some o)) (lists.carry_on o.row rs) rs
+    (length-carry_on o.row rs) refl
 
 -- a member's tie, where it ends one
 abbrev tie_by : Span → Member → List Member → List Member
@@ -109,13 +108,13 @@ pub record RowingFits (w : Rowing Lists) : Type 0 where
   pub within : VoiceWithin (length w.rows) (length w.members) w.voice
   pub fits : VoiceFits w.voice
 
-hammer_later : (m n : ℕ) (h : Hammer) → HammerWithin m h → m ≤ n → HammerWithin n h
-hammer_later m n NoHammer f l = tt
-hammer_later m n (Waits k key) f l = omega arith
+hammer_later : (m n : ℕ) (h : Option Hammer) → HammerWithin m h → m ≤ n → HammerWithin n h
+hammer_later m n None f l = tt
+hammer_later m n (Some w) f l = omega arith
 
-run_later : (m n : ℕ) (r : OttavaRun) → RunWithin m r → m ≤ n → RunWithin n r
-run_later m n NoRun f l = tt
-run_later m n (Over k kind) f l = omega arith
+run_later : (m n : ℕ) (r : Option OttavaRun) → RunWithin m r → m ≤ n → RunWithin n r
+run_later m n None f l = tt
+run_later m n (Some o) f l = omega arith
 
 -- where there are more rows and members
 pub voice_later : {i j m n : ℕ} {v : Voice} → VoiceWithin i m v → i ≤ j → m ≤ n → VoiceWithin j n v
@@ -128,16 +127,16 @@ voice_later {i} {j} {m} {n} {v} f h k =
 
 hammer_there : (n : ℕ) (r : RowIs) → HammerWithin (n + 1) (hammer_after n r)
 hammer_there n r =
-    pick_both (HammerWithin (n + 1)) (marked r.text) (Waits n (first_key r.members)) NoHammer (omega arith) tt
+    pick_both (HammerWithin (n + 1)) (marked r.text) (Some (record { row = n; key = first_key r.members })) None (omega arith) tt
 
 hammer_fits : (n : ℕ) (r : RowIs) → RowFit r → HammerFits (hammer_after n r)
-hammer_fits n r f = pick_both HammerFits (marked r.text) (Waits n (first_key r.members)) NoHammer f.key tt
+hammer_fits n r f = pick_both HammerFits (marked r.text) (Some (record { row = n; key = first_key r.members })) None f.key tt
 
-run_there : (n : ℕ) (r : RowIs) (run : OttavaRun) → RunWithin n run → RunWithin (n + 1) (run_after n r run)
+run_there : (n : ℕ) (r : RowIs) (run : Option OttavaRun) → RunWithin n run → RunWithin (n + 1) (run_after n r run)
 run_there n r run f =
-    pick_both (RunWithin (n + 1)) (under r) (Over n r.ottava) (pick (r.rest && same_kind r run) run NoRun)
+    pick_both (RunWithin (n + 1)) (under r) (Some (record { row = n; kind = r.ottava })) (pick (r.rest && same_kind r run) run None)
     (omega arith)
-    (pick_both (RunWithin (n + 1)) (r.rest && same_kind r run) run NoRun (run_later n (n + 1) run f (omega arith)) tt)
+    (pick_both (RunWithin (n + 1)) (r.rest && same_kind r run) run None (run_later n (n + 1) run f (omega arith)) tt)
 
 abbrev SpanWithin : ℕ → Span → Type 0
 SpanWithin n x = x.first + x.count ≤ n
@@ -191,9 +190,9 @@ module _ (r q : RowIs) (a : AlikeRow r q) (n : ℕ) where
       ≡ last_after r.kind (span_of n (length r.members)) last
   last_alike last = rw (a.kind, a.members)
 
-  run_alike : (run : OttavaRun) → run_after n q run ≡ run_after n r run
-  run_alike NoRun = rw (a.ottava, a.rest)
-  run_alike (Over k kind) = rw (a.ottava, a.rest)
+  run_alike : (run : Option OttavaRun) → run_after n q run ≡ run_after n r run
+  run_alike None = rw (a.ottava, a.rest)
+  run_alike (Some o) = rw (a.ottava, a.rest)
 
 -- the numbers stay below the largest word
 pub record Below (w : Rowing Lists) (rs : List RowIs) : Type 0 where
@@ -254,18 +253,18 @@ on_words t w =
     }
 
 module _ (s t : List ℕ) (r : RowIs) (rs : List Row) where
-  hammer_shows : (h : Hammer) → HammerWithin (length rs) h
+  hammer_shows : (h : Option Hammer) → HammerWithin (length rs) h
       → turn_hammer (words s) h r (shown rows t rs) ≡ shown rows t (turn_hammer lists h r rs)
-  hammer_shows NoHammer f = refl
-  hammer_shows (Waits n key) f =
-      pick_shows (shown rows t) (pulls r key) (lists.pull_off n rs) rs (pull_off_shows s t n rs f) refl
+  hammer_shows None f = refl
+  hammer_shows (Some w) f =
+      pick_shows (shown rows t) (pulls r w.key) (lists.pull_off w.row rs) rs (pull_off_shows s t w.row rs f) refl
 
-  run_shows : (run : OttavaRun) → RunWithin (length rs) run
+  run_shows : (run : Option OttavaRun) → RunWithin (length rs) run
       → turn_run (words s) run r (shown rows t rs) ≡ shown rows t (turn_run lists run r rs)
-  run_shows NoRun f = refl
-  run_shows (Over n kind) f =
-      pick_shows (shown rows t) (under r && same_kind r (Over n kind)) (lists.carry_on n rs) rs
-      (carry_on_shows s t n rs f) refl
+  run_shows None f = refl
+  run_shows (Some o) f =
+      pick_shows (shown rows t) (under r && same_kind r (Some o)) (lists.carry_on o.row rs) rs
+      (carry_on_shows s t o.row rs f) refl
 
 ties_show : (s t : List ℕ) (last : Span) (tied ms : List Member) → All Stringed tied
     → length ms * member_stride ≤ length t → SpanWithin (length ms) last

@@ -1,4 +1,5 @@
 -- What an operation on a list keeps: how many entries there are, and that they fit their words.
+use Rattle.std.specs.Prelude.{None, Option, Some}
 use Prim.Native.Nat.{ℕ, zero, suc, ◌+◌, ◌<◌}
 use mathlib.Core.Path.{◌≡◌, refl}
 use mathlib.Core.Bool.{true, false}
@@ -12,8 +13,6 @@ use Rattle.model.specs.declared.Member.{Member}
 use Rattle.model.specs.declared.Row.{Row}
 use Rattle.model.specs.declared.Span.{Span}
 use Rattle.model.specs.declared.Technique.TheVariants.{PullOff}
-use Rattle.model.specs.declared.Tempo.{Tempo}
-use Rattle.model.specs.declared.Tempo.TheVariants.{NoTempo, Bpm}
 use Rattle.model.proofs.Fits.{TempoFits}
 use Rattle.entries.specs.Changed.{with_place, with_tempo, with_technique, with_ottava_end, with_tie_start}
 use Rattle.entries.proofs.Fits.{BarFits, RowFits, MemberFits}
@@ -35,7 +34,7 @@ length-add_all k n qs es = rw (add_all_is k n qs es) (length-append es qs)
 abbrev gone_on : Bar → Bar
 gone_on b = with_place (followed b.place) b
 
-abbrev in_tempo : Tempo → Bar → Bar
+abbrev in_tempo : Option ℕ → Bar → Bar
 in_tempo x b = with_tempo (first_tempo b.tempo x) b
 
 with_place_fits : (p : EndingPlace) (b : Bar) → BarFits b → BarFits (with_place p b)
@@ -50,7 +49,7 @@ with_place_fits p b f =
       tempo = f.tempo;
     }
 
-with_tempo_fits : (x : Tempo) (b : Bar) → TempoFits x → BarFits b → BarFits (with_tempo x b)
+with_tempo_fits : (x : Option ℕ) (b : Bar) → TempoFits x → BarFits b → BarFits (with_tempo x b)
 with_tempo_fits x b q f =
     record {
       numerator = f.numerator;
@@ -62,9 +61,9 @@ with_tempo_fits x b q f =
       tempo = q;
     }
 
-first_tempo_fits : (old new : Tempo) → TempoFits old → TempoFits new → TempoFits (first_tempo old new)
-first_tempo_fits NoTempo new f q = q
-first_tempo_fits (Bpm n) new f q = f
+first_tempo_fits : (old new : Option ℕ) → TempoFits old → TempoFits new → TempoFits (first_tempo old new)
+first_tempo_fits None new f q = q
+first_tempo_fits (Some n) new f q = f
 
 module _ (i : ℕ) (bs : List Bar) where
   pub length-go_on : length (lists.go_on i bs) ≡ length bs
@@ -73,10 +72,10 @@ module _ (i : ℕ) (bs : List Bar) where
   pub go_on_fits : All BarFits bs → All BarFits (lists.go_on i bs)
   go_on_fits f = all_change BarFits gone_on (λ b. with_place_fits (followed b.place) b) bs i f
 
-  pub length-tempo : (x : Tempo) → length (lists.tempo_at i x bs) ≡ length bs
+  pub length-tempo : (x : Option ℕ) → length (lists.tempo_at i x bs) ≡ length bs
   length-tempo x = length-change (in_tempo x) bs i
 
-  pub tempo_fits : (x : Tempo) → TempoFits x → All BarFits bs → All BarFits (lists.tempo_at i x bs)
+  pub tempo_fits : (x : Option ℕ) → TempoFits x → All BarFits bs → All BarFits (lists.tempo_at i x bs)
   tempo_fits x q f =
       all_change BarFits (in_tempo x)
       (λ b g. with_tempo_fits (first_tempo b.tempo x) b (first_tempo_fits b.tempo x g.tempo q) g) bs i f

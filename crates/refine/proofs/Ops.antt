@@ -1,5 +1,6 @@
 -- Each operation on the words of a table shows the operation on its entries. One that stores only by what it loads
 -- at the same word does so whatever room the table has; one that tells something of the entries needs room for them.
+use Rattle.std.specs.Prelude.{None, Option, Some}
 use Prim.Native.Nat.{ℕ, zero, suc, ◌+◌, ◌*◌, ◌%◌, ◌≤◌, ◌<◌}
 use mathlib.Core.Path.{◌≡◌, refl, ap, sym, ◌∙◌}
 use mathlib.Core.Bool.{true, false}
@@ -19,10 +20,7 @@ use Rattle.model.specs.declared.Member.{Member}
 use Rattle.model.specs.declared.Row.{Row}
 use Rattle.model.specs.declared.Span.{Span}
 use Rattle.model.specs.declared.TabPosition.{TabPosition}
-use Rattle.model.specs.declared.TabPosition.TheVariants.{OffTablature, Fretted}
 use Rattle.model.specs.declared.Technique.TheVariants.{PullOff}
-use Rattle.model.specs.declared.Tempo.{Tempo}
-use Rattle.model.specs.declared.Tempo.TheVariants.{NoTempo, Bpm}
 use Rattle.model.proofs.Fits.{KeyFits, TempoFits}
 use Rattle.model.proofs.KindLaws.{ending_place_back, key_back, tempo_back}
 use Rattle.model.specs.Kinds.{ending_place_word, ending_place_of, tempo_word, tempo_of, technique_word, flag_word, string_word}
@@ -79,12 +77,12 @@ place_turned : (b : Bar)
 unfolding bar_words
 place_turned b = rw (ending_place_back b.place)
 
-first_word_lem : (old new : Tempo) → TempoFits old
+first_word_lem : (old new : Option ℕ) → TempoFits old
     → first_word (tempo_word old) (tempo_word new) ≡ tempo_word (first_tempo old new)
-first_word_lem NoTempo new f = refl
-first_word_lem (Bpm n) new f = rw (ne_eqb n 0 (omega arith))
+first_word_lem None new f = refl
+first_word_lem (Some n) new f = rw (ne_eqb n 0 (omega arith))
 
-tempo_turned : (x : Tempo) (b : Bar) → TempoFits b.tempo
+tempo_turned : (x : Option ℕ) (b : Bar) → TempoFits b.tempo
     → set (bar_words b) tempo_at (first_word (get_or (bar_words b) tempo_at 0) (tempo_word x))
     ≡ bar_words (with_tempo (first_tempo b.tempo x) b)
 unfolding bar_words
@@ -100,7 +98,7 @@ module _ (s t : List ℕ) (i : ℕ) (bs : List Bar) (h : i < length bs) where
       turn_shows bars t bs tt i no_bar h (λ b. with_place (followed b.place) b) place_at place_after (omega arith)
       (place_turned bar)
 
-  pub tempo_shows : (x : Tempo) → TempoFits (get_or bs i no_bar).tempo
+  pub tempo_shows : (x : Option ℕ) → TempoFits (get_or bs i no_bar).tempo
       → (words s).tempo_at i x (shown bars t bs) ≡ shown bars t (lists.tempo_at i x bs)
   unfolding tempo_words
   tempo_shows x f =
@@ -135,16 +133,16 @@ module _ (s t : List ℕ) (i : ℕ) (rs : List Row) (h : i < length rs) where
 -- ---- members
 
 -- string 0 would be off tablature
-abbrev pub OnString : TabPosition → Type 0
-OnString OffTablature = Unit {0}
-OnString (Fretted s f) = 0 < s
+abbrev pub OnString : Option TabPosition → Type 0
+OnString None = Unit {0}
+OnString (Some at) = 0 < at.string
 
-same_place_lem : (p q : TabPosition) (x y : ℕ) → OnString p
+same_place_lem : (p q : Option TabPosition) (x y : ℕ) → OnString p
     → pick (eqb (string_word p) 0) (eqb x y) (eqb (string_word p) (string_word q)) ≡ same_place p q (eqb x y)
-same_place_lem OffTablature OffTablature x y f = refl
-same_place_lem OffTablature (Fretted s g) x y f = refl
-same_place_lem (Fretted s g) OffTablature x y f = rw (ne_eqb s 0 (omega arith))
-same_place_lem (Fretted s g) (Fretted u i) x y f = rw (ne_eqb s 0 (omega arith))
+same_place_lem None None x y f = refl
+same_place_lem None (Some q) x y f = refl
+same_place_lem (Some p) None x y f = rw (ne_eqb p.string 0 (omega arith))
+same_place_lem (Some p) (Some q) x y f = rw (ne_eqb p.string 0 (omega arith))
 
 module _ (t : List ℕ) (tied : Member) (f : OnString tied.position) (ms : List Member) where
   abbrev m : ℕ → Member

@@ -1,4 +1,5 @@
 -- The words of a part that fits them: what is loaded of them, and what a store makes of them.
+use Rattle.std.specs.Prelude.{None, Option, Some}
 use Prim.Native.Nat.{ℕ, zero, suc, ◌+◌, ◌%◌, ◌<◌}
 use mathlib.Core.Path.{◌≡◌, refl, ap, sym, ◌∙◌}
 use mathlib.Core.Bool.{Bool}
@@ -12,12 +13,8 @@ use Rattle.model.proofs.KindLaws.{flag_back}
 use Rattle.model.specs.Kinds.{flag_of}
 use Rattle.score.specs.declared.Fretboard.{Fretboard}
 use Rattle.score.specs.declared.Hammer.{Hammer}
-use Rattle.score.specs.declared.Hammer.TheVariants.{NoHammer, Waits}
-use Rattle.score.specs.declared.LastFret.{LastFret}
-use Rattle.score.specs.declared.LastFret.TheVariants.{NoFret, Fret}
 use Rattle.score.specs.declared.OttavaRun.{OttavaRun}
 use Rattle.score.specs.declared.Part.{Part}
-use Rattle.score.specs.declared.Remembered.{Remembered}
 use Rattle.score.specs.declared.Voice.{Voice}
 use Rattle.score.specs.Sounding.{nothing}
 use Rattle.score.specs.Score.{voice_of, with_voice, with_running}
@@ -25,7 +22,7 @@ use Rattle.words.specs.Words.{running_place, voice_place, fret_word, fret_of, ha
 use Rattle.words.proofs.Back.{fret_back, hammer_back, run_back}
 use Rattle.refine.proofs.All.{all_get_d}
 use Rattle.refine.proofs.Runs.{sets_after, sets_before, sets_all}
-use Rattle.refine.proofs.Parts.{Byte, LastFits, FretFits, HammerFits, VoiceFits, BoardFits, PartFits, voice_length, board_length}
+use Rattle.refine.proofs.Parts.{Byte, LastFits, HammerFits, VoiceFits, BoardFits, PartFits, voice_length, board_length}
 
 -- ---- a list by its elements: n of them from i on
 
@@ -42,51 +39,51 @@ seven l d e = cells_are l d 7 0 e
 
 -- ---- a voice
 
-last_fret_back : (x : LastFret) → LastFits x → fret_of (fret_word x) ≡ x
+last_fret_back : (x : Option ℕ) → LastFits x → fret_of (fret_word x) ≡ x
 unfolding fret_of
-last_fret_back NoFret f = refl
-last_fret_back (Fret n) f = fret_back n f
+last_fret_back None f = refl
+last_fret_back (Some n) f = fret_back n f
 
 -- the words after those of the frets
-module _ (x : Span) (r : OttavaRun) where
-  abbrev later : Hammer → ℕ → ℕ
+module _ (x : Span) (r : Option OttavaRun) where
+  abbrev later : Option Hammer → ℕ → ℕ
   later h j = get_or (hammer_words h ++ (x.first ∷ x.count ∷ []) ++ run_words r) j 0
 
-  waits_back : (h : Hammer) → HammerFits h → hammer_of (later h 0) (later h 1) (later h 2) ≡ h
+  waits_back : (h : Option Hammer) → HammerFits h → hammer_of (later h 0) (later h 1) (later h 2) ≡ h
   unfolding hammer_of flag_of
-  waits_back NoHammer f = refl
-  waits_back (Waits n key) f = hammer_back n key f
+  waits_back None f = refl
+  waits_back (Some w) f = hammer_back w.row w.key f
 
-  last_back : (h : Hammer) → ◌≡◌ {A = Span} (record { first = later h 3; count = later h 4 }) x
-  last_back NoHammer = refl
-  last_back (Waits n key) = refl
+  last_back : (h : Option Hammer) → ◌≡◌ {A = Span} (record { first = later h 3; count = later h 4 }) x
+  last_back None = refl
+  last_back (Some w) = refl
 
-  over_back : (h : Hammer) → run_of (later h 5) (later h 6) (later h 7) ≡ r
-  over_back NoHammer = run_back r
-  over_back (Waits n key) = run_back r
+  over_back : (h : Option Hammer) → run_of (later h 5) (later h 6) (later h 7) ≡ r
+  over_back None = run_back r
+  over_back (Some w) = run_back r
 
-abbrev voice : List Remembered → Hammer → Span → OttavaRun → Voice
+abbrev voice : List (Option ℕ) → Option Hammer → Span → Option OttavaRun → Voice
 voice f h l r = record { frets = f; hammer = h; last = l; run = r }
 
-same_voice_lem : {f g : List Remembered} {h i : Hammer} {l m : Span} {r q : OttavaRun}
+same_voice_lem : {f g : List (Option ℕ)} {h i : Option Hammer} {l m : Span} {r q : Option OttavaRun}
     → f ≡ g → h ≡ i → l ≡ m → r ≡ q → voice f h l r ≡ voice g i m q
 same_voice_lem a b c d = λ z. voice (a z) (b z) (c z) (d z)
 
-voice_cells : (fret : ℕ → Remembered) (h : Hammer) (l : Span) (r : OttavaRun)
-    → ((j : ℕ) → FretFits (fret j)) → HammerFits h
+voice_cells : (fret : ℕ → Option ℕ) (h : Option Hammer) (l : Span) (r : Option OttavaRun)
+    → ((j : ℕ) → LastFits (fret j)) → HammerFits h
     → voice_from 0 (voice_words (voice (cells 7 0 fret) h l r)) ≡ voice (cells 7 0 fret) h l r
 unfolding voice_from voice_words
 voice_cells fret h l r f q =
-    let back : (j : ℕ) → fret_of (fret_word (fret j).fret) ≡ (fret j).fret = λ j. last_fret_back (fret j).fret (f j) in
+    let back : (j : ℕ) → fret_of (fret_word (fret j)) ≡ (fret j) = λ j. last_fret_back (fret j) (f j) in
     same_voice_lem (rw (back 0, back 1, back 2, back 3, back 4, back 5, back 6))
     (waits_back l r h q) (last_back l r h) (over_back l r h)
 
 pub voice_back : (v : Voice) → VoiceFits v → voice_from 0 (voice_words v) ≡ v
 voice_back v f =
-    let fret : ℕ → Remembered = λ j. get_or v.frets j nothing in
+    let fret : ℕ → Option ℕ = λ j. get_or v.frets j nothing in
     let e : v.frets ≡ cells 7 0 fret = seven v.frets nothing f.strings in
     let g : v ≡ voice (cells 7 0 fret) v.hammer v.last v.run = same_voice_lem e refl refl refl in
-    let each : (j : ℕ) → FretFits (fret j) = λ j. all_get_d FretFits v.frets j nothing f.frets tt in
+    let each : (j : ℕ) → LastFits (fret j) = λ j. all_get_d LastFits v.frets j nothing f.frets tt in
     ap (λ (x : Voice). voice_from 0 (voice_words x)) g
     ∙ voice_cells fret v.hammer v.last v.run each f.hammer
     ∙ sym g

@@ -1,4 +1,5 @@
 -- The parts that fit their words: every part that a reading can give is one of them. Its words are then 42.
+use Rattle.std.specs.Prelude.{None, Option, Some}
 use Prim.Native.Nat.{ℕ, zero, suc, ◌<◌}
 use mathlib.Core.Path.{◌≡◌, refl}
 use native.Mathlib.Omega.{arith}
@@ -6,13 +7,8 @@ use lib.ListN.{length, length-append, length-map}
 use Rattle.track.specs.declared.TrackHeader.{TrackHeader}
 use Rattle.score.specs.declared.Fretboard.{Fretboard}
 use Rattle.score.specs.declared.Hammer.{Hammer}
-use Rattle.score.specs.declared.Hammer.TheVariants.{NoHammer, Waits}
-use Rattle.score.specs.declared.LastFret.{LastFret}
-use Rattle.score.specs.declared.LastFret.TheVariants.{NoFret, Fret}
 use Rattle.score.specs.declared.OttavaRun.{OttavaRun}
-use Rattle.score.specs.declared.OttavaRun.TheVariants.{NoRun, Over}
 use Rattle.score.specs.declared.Part.{Part}
-use Rattle.score.specs.declared.Remembered.{Remembered}
 use Rattle.score.specs.declared.Voice.{Voice}
 use Rattle.score.specs.Sounding.{nothing}
 use Rattle.score.specs.Page.{part_of, no_voice}
@@ -23,20 +19,17 @@ use Rattle.refine.proofs.All.{All, all_replicate}
 abbrev pub Byte : ℕ → Type 0
 Byte n = n < 256
 
-abbrev pub LastFits : LastFret → Type 0
-LastFits NoFret = Unit {0}
-LastFits (Fret f) = f < 256
+abbrev pub LastFits : Option ℕ → Type 0
+LastFits None = Unit {0}
+LastFits (Some f) = f < 256
 
-abbrev pub FretFits : Remembered → Type 0
-FretFits x = LastFits x.fret
-
-abbrev pub HammerFits : Hammer → Type 0
-HammerFits NoHammer = Unit {0}
-HammerFits (Waits n key) = key < 256
+abbrev pub HammerFits : Option Hammer → Type 0
+HammerFits None = Unit {0}
+HammerFits (Some w) = w.key < 256
 
 pub record VoiceFits (v : Voice) : Type 0 where
   pub strings : length v.frets ≡ 7
-  pub frets : All FretFits v.frets
+  pub frets : All LastFits v.frets
   pub hammer : HammerFits v.hammer
 
 pub record BoardFits (b : Fretboard) : Type 0 where
@@ -54,7 +47,7 @@ pub record PartFits (p : Part) : Type 0 where
 -- ---- at first, and after a change
 
 no_voice_fits : VoiceFits no_voice
-no_voice_fits = record { strings = refl; frets = all_replicate FretFits 7 nothing tt; hammer = tt }
+no_voice_fits = record { strings = refl; frets = all_replicate LastFits 7 nothing tt; hammer = tt }
 
 pub part_of_fits : (t : TrackHeader) → BoardFits (part_of t).board → PartFits (part_of t)
 part_of_fits t f = record { board = f; running = omega arith; first = no_voice_fits; second = no_voice_fits }
@@ -72,13 +65,13 @@ with_running_fits n p q f = record { board = f.board; running = q; first = f.fir
 
 -- ---- how many words
 
-hammer_length : (h : Hammer) → length (hammer_words h) ≡ 3
-hammer_length NoHammer = refl
-hammer_length (Waits n key) = refl
+hammer_length : (h : Option Hammer) → length (hammer_words h) ≡ 3
+hammer_length None = refl
+hammer_length (Some w) = refl
 
-run_length : (r : OttavaRun) → length (run_words r) ≡ 3
-run_length NoRun = refl
-run_length (Over n kind) = refl
+run_length : (r : Option OttavaRun) → length (run_words r) ≡ 3
+run_length None = refl
+run_length (Some o) = refl
 
 pub voice_length : (v : Voice) → VoiceFits v → length (voice_words v) ≡ 15
 unfolding voice_words

@@ -1,4 +1,5 @@
 -- What a reading hands on: where beats, headers and tracks end, the ranges of their texts and numbers.
+use Rattle.std.specs.Prelude.{None, Option, Some}
 use Prim.Native.Nat.{ℕ, zero, suc, ◌+◌, ◌*◌, ◌-◌, ◌≤◌, ◌<◌, min, max}
 use native.Mathlib.Omega.{arith}
 use mathlib.Core.Path.{◌≡◌, refl, sym, ◌∙◌}
@@ -24,23 +25,18 @@ use Rattle.format.proofs.Yields.{yielding, yield_le, yield_eq, yield_bits}
 use Rattle.format.proofs.Yields.{yield_here, yield_u8, yield_byte, yield_skip, yield_number, yield_count}
 use Rattle.format.proofs.Yields.{yield_no_text, yield_fixed_string, yield_int_byte_string_unused, yield_int_byte_string}
 use Rattle.model.specs.declared.Articulation.{Articulation}
-use Rattle.model.specs.declared.Tempo.TheVariants.{NoTempo, Bpm}
 use Rattle.model.specs.declared.Time.{Time}
 use Rattle.model.specs.Kinds.{tempo_from}
 use Rattle.model.proofs.Fits.{KeyFits, TempoFits}
 use Rattle.model.specs.Marks.{add_once}
 use Rattle.model.proofs.MarksLaws.{Distinct, distinct_nil, distinct_few, distinct_add}
 use Rattle.curve.specs.Held.{held, byte_half, word_half}
-use Rattle.curve.specs.declared.level.Level.{Level}
-use Rattle.curve.specs.declared.level.Level.TheVariants.{Absent, Given}
 use Rattle.curve.specs.Level.{held_level, note_level}
 use Rattle.header.specs.declared.Counts.{Counts}
 use Rattle.header.specs.declared.Header.{Header}
 use Rattle.track.specs.declared.TrackHeader.{TrackHeader}
 use Rattle.header.specs.Header as H
 use Rattle.track.specs.Track as T
-use Rattle.note.specs.declared.marks.GraceNote.{GraceNote}
-use Rattle.note.specs.declared.marks.GraceNote.TheVariants.{NoGrace, Before}
 use Rattle.note.specs.Points.{BendPoint, bend_point, bend_points, bend}
 use Rattle.beat.specs.declared.effects.BeatEffects.{BeatEffects}
 use Rattle.beat.specs.Chord.{diagram, old_chord, early_chord, chord, chord_name, beat_text}
@@ -53,17 +49,18 @@ use Rattle.beat.specs.Beat.{BeatIs, beat_notes, beat_by, beat}
 use Rattle.score.specs.Members.{Keyed}
 use Rattle.score.specs.Rows.{marks_of_notes, beat_marks, added_all, row_articulations}
 use Rattle.score.specs.Page.{bend_room, bend_rooms}
+use Rattle.note.specs.declared.marks.Grace.{Grace}
 
 -- ---- the facts: of what begins at a position of the file s and ends at n
 -- frets are held to 0..99 (docs/RULES.md 14)
-abbrev pub GraceFits : GraceNote → Type 0
-GraceFits NoGrace = Unit {0}
-GraceFits (Before g) = g.fret ≤ 99
+abbrev pub GraceFits : Option Grace → Type 0
+GraceFits None = Unit {0}
+GraceFits (Some g) = g.fret ≤ 99
 
 -- a dynamic is held to 1..8 (docs/RULES.md 14)
-abbrev pub LevelFits : Level → Type 0
-LevelFits Absent = Unit {0}
-LevelFits (Given n) = n ≤ 8
+abbrev pub LevelFits : Option ℕ → Type 0
+LevelFits None = Unit {0}
+LevelFits (Some n) = n ≤ 8
 
 pub record NoteFits (x : NoteIs) : Type 0 where
   pub fret : x.read.fret ≤ 99
@@ -122,7 +119,7 @@ held_within half hi x = go (ltb x half)
     go true = omega arith
     go false = omega arith
 
-level_within : (ghost accent heavy : Bool) (stored : Level)
+level_within : (ghost accent heavy : Bool) (stored : Option ℕ)
     → LevelFits (note_level ghost accent heavy stored).given
 unfolding note_level held
 level_within ghost accent heavy stored = go (ghost || accent || heavy) stored
@@ -131,10 +128,10 @@ level_within ghost accent heavy stored = go (ghost || accent || heavy) stored
     at true byte = omega arith
     at false byte = omega arith
 
-    go : (t : Bool) (l : Level) → LevelFits (pick t Absent (held_level l))
+    go : (t : Bool) (l : Option ℕ) → LevelFits (pick t None (held_level l))
     go true l = tt
-    go false Absent = tt
-    go false (Given byte) = at (ltb byte byte_half) byte
+    go false None = tt
+    go false (Some byte) = at (ltb byte byte_half) byte
 
 pick_within : (t : Bool) (a : ℕ) → pick t a 0 ≤ a
 pick_within true a = omega arith
@@ -180,7 +177,7 @@ tempo_fits : (v : ℕ) → TempoFits (tempo_from v)
 unfolding tempo_from
 tempo_fits v = go (leb 1 v) (leb v 999) refl refl
   where
-    go : (t u : Bool) → leb 1 v ≡ t → leb v 999 ≡ u → TempoFits (pick t (pick u (Bpm v) NoTempo) NoTempo)
+    go : (t u : Bool) → leb 1 v ≡ t → leb v 999 ≡ u → TempoFits (pick t (pick u (Some v) None) None)
     go true true e f = (leb-true 1 v e, omega (arith, leb-true v 999 f))
     go true false e f = tt
     go false u e f = tt

@@ -1,16 +1,11 @@
 -- Bars: what is made of a header, of the headers before it, and of the directions.
-use Rattle.std.specs.Prelude.{ℕ, ◌+◌, List, [], ◌∷◌, Bool, true, false, not, ◌&&◌, get_or, eqb, ltb, pos, negsuc}
+use Rattle.std.specs.Prelude.{ℕ, ◌+◌, List, [], ◌∷◌, Bool, true, false, not, ◌&&◌, get_or, eqb, ltb, pos, negsuc, None, Option, Some}
 use Rattle.format.specs.Text.{pick}
 use Rattle.model.specs.declared.Bar.{Bar}
 use Rattle.model.specs.declared.Time.{Time}
 use Rattle.model.specs.declared.Key.{Key}
 use Rattle.model.specs.declared.Key.TheVariants.{NoKey, Fifths}
 use Rattle.model.specs.declared.Mode.TheVariants.{Major}
-use Rattle.model.specs.declared.Tempo.TheVariants.{NoTempo}
-use Rattle.model.specs.declared.Ending.{Ending}
-use Rattle.model.specs.declared.Ending.TheVariants.{NoEnding, Nth}
-use Rattle.model.specs.declared.Passes.{Passes}
-use Rattle.model.specs.declared.Passes.TheVariants.{NoPasses, Mask}
 use Rattle.model.specs.declared.EndingPlace.{EndingPlace}
 use Rattle.model.specs.declared.EndingPlace.TheVariants.{NoPlace, Begin, Mid, End, BeginEnd}
 use Rattle.model.specs.declared.Direction.{Direction}
@@ -110,11 +105,11 @@ followed Mid = Mid
 followed End = Mid
 followed BeginEnd = Begin
 
-abbrev pub ending_entry : ℕ → Ending
-ending_entry n = pick (eqb n 0) NoEnding (Nth n)
+abbrev pub ending_entry : ℕ → Option ℕ
+ending_entry n = pick (eqb n 0) None (Some n)
 
-abbrev pub passes_entry : ℕ → Passes
-passes_entry m = pick (eqb m 0) NoPasses (Mask m)
+abbrev pub passes_entry : ℕ → Option ℕ
+passes_entry m = pick (eqb m 0) None (Some m)
 
 -- a double bar stands where no repeat ends
 unfoldable pub bar_of : List ℕ → ℕ → Time → Header → Before → Bar
@@ -129,7 +124,7 @@ bar_of numbers bar time h before =
       place = last_place before h;
       marker = h.marker;
       direction = direction_at numbers bar;
-      tempo = NoTempo;
+      tempo = None;
     }
 
 -- beside an index that is out of range
@@ -140,10 +135,10 @@ no_bar =
       key = NoKey;
       changed = record { time = false; key = false };
       repeats = record { start = false; end = false; double = false };
-      ending = NoEnding;
-      passes = NoPasses;
+      ending = None;
+      passes = None;
       place = NoPlace;
       marker = record { start = 0; end = 0 };
       direction = D.NoDirection;
-      tempo = NoTempo;
+      tempo = None;
     }

@@ -1,7 +1,6 @@
 -- The skeleton of a whole file, to the last voice of the last bar, generic in the states that headers, tracks and beats are
 -- added to.
-use Rattle.std.specs.Prelude.{ℕ, Bool, List}
-use Rattle.model.specs.declared.Tempo.{Tempo}
+use Rattle.std.specs.Prelude.{ℕ, Bool, List, Option}
 use Rattle.model.specs.declared.Time.{Time}
 use Rattle.format.specs.declared.Counted.TheVariants as C
 use Rattle.format.specs.Prog.{Prog, ret, bind, when_le, turns}
@@ -24,7 +23,7 @@ pub record Opening : Type 0 where
   pub info : Info
   pub swing : Bool
   pub lyrics : Lyrics
-  pub tempo : Tempo
+  pub tempo : Option ℕ
   pub programs : List (List ℕ)
   pub directions : List ℕ
   pub counts : Counts

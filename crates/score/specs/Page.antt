@@ -1,6 +1,6 @@
 -- What is kept of a file: the entries of the six tables, and what is remembered on the way. The tables may be anything that has the
 -- operations below: lists of entries, for the definition of a score, or the words of slices, for the reader.
-use Rattle.std.specs.Prelude.{ℕ, ◌+◌, ◌-◌, List, [], ◌∷◌, ◌++◌, Bool, true, false, not, ◌&&◌, get_or, length, set, replicate, eqb, ltb}
+use Rattle.std.specs.Prelude.{ℕ, ◌+◌, ◌-◌, List, [], ◌∷◌, ◌++◌, Bool, true, false, not, ◌&&◌, get_or, length, set, replicate, eqb, ltb, None, Option, Some}
 use Rattle.format.specs.Text.{TextRead, pick}
 use Rattle.model.specs.declared.Bar.{Bar}
 use Rattle.model.specs.declared.Dynamic.{Dynamic}
@@ -21,14 +21,11 @@ use Rattle.model.specs.declared.RowKind.TheVariants.{Grace, Beat}
 use Rattle.model.specs.declared.Span.{Span}
 use Rattle.model.specs.declared.TechniqueText.{TechniqueText}
 use Rattle.model.specs.declared.TechniqueText.TheVariants.{NoText, HammerMark, PalmMute, LetRing}
-use Rattle.model.specs.declared.Tempo.{Tempo}
 use Rattle.model.specs.declared.Time.{Time}
 use Rattle.model.specs.declared.Track.{Track}
 use Rattle.model.specs.Answers.{loss_number}
 use Rattle.model.specs.Kinds.{dynamic_of, ottava_word}
 use Rattle.curve.specs.Bend.{curve_height}
-use Rattle.curve.specs.declared.level.Level.{Level}
-use Rattle.curve.specs.declared.level.Level.TheVariants.{Absent, Given}
 use Rattle.curve.specs.Level.{forte, chord_of, level_after}
 use Rattle.header.specs.declared.Header.{Header}
 use Rattle.track.specs.declared.TrackHeader.{TrackHeader}
@@ -40,17 +37,14 @@ use Rattle.beat.specs.Beat.{BeatIs}
 use Rattle.score.specs.declared.Before.{Before}
 use Rattle.score.specs.declared.Fretboard.{Fretboard}
 use Rattle.score.specs.declared.Hammer.{Hammer}
-use Rattle.score.specs.declared.Hammer.TheVariants.{NoHammer, Waits}
 use Rattle.score.specs.declared.KeptCounts.{KeptCounts}
 use Rattle.score.specs.declared.OttavaRun.{OttavaRun}
-use Rattle.score.specs.declared.OttavaRun.TheVariants.{NoRun, Over}
 use Rattle.score.specs.declared.Part.{Part}
 use Rattle.score.specs.declared.Tally.{Tally}
 use Rattle.score.specs.declared.Voice.{Voice}
 use Rattle.score.specs.Sounding.{Sounding, no_memory, sounding, remember}
 use Rattle.score.specs.Members.{Keyed, in_order}
 use Rattle.score.specs.Rows.{RowIs, rows_of, levels}
-use Rattle.score.specs.declared.Remembered.{Remembered}
 use Rattle.score.specs.File.{Opening, Adding}
 use Rattle.score.specs.Bars.{several, unsupported, other_signs, c_major, key_after, flat_after, goes_on, bar_of}
 use Rattle.score.specs.Losses.{report_if, reported, header_losses, track_losses, reading_losses, building_losses}
@@ -89,7 +83,7 @@ pub record Operations (T : Kind → Type 0) : Type 0 where
   -- in a table of bars: the ending of this bar goes on in the next; its key; it gets this tempo unless it has one
   pub go_on : ℕ → T bars → T bars
   pub key_at : ℕ → T bars → Key
-  pub tempo_at : ℕ → Tempo → T bars → T bars
+  pub tempo_at : ℕ → Option ℕ → T bars → T bars
   -- in a table of rows: the row of this number becomes a pull-off; its ottava does not end there
   pub pull_off : ℕ → T rows → T rows
   pub carry_on : ℕ → T rows → T rows
@@ -135,9 +129,9 @@ marked LetRing = false
 abbrev pub text_left : TechniqueText → TechniqueText
 text_left t = pick (marked t) NoText t
 
-abbrev pub dynamic_at : Level → Dynamic
-dynamic_at Absent = NoDynamic
-dynamic_at (Given n) = dynamic_of n
+abbrev pub dynamic_at : Option ℕ → Dynamic
+dynamic_at None = NoDynamic
+dynamic_at (Some n) = dynamic_of n
 
 unfoldable pub row_entry : RowIs → OttavaMarks → KeptCounts → Row
 row_entry r marks kept =
@@ -174,22 +168,22 @@ abbrev pub first_key : List Member → ℕ
 first_key [] = 0
 first_key (m ∷ ms) = m.key
 
-abbrev pub hammer_after : ℕ → RowIs → Hammer
-hammer_after n r = pick (marked r.text) (Waits n (first_key r.members)) NoHammer
+abbrev pub hammer_after : ℕ → RowIs → Option Hammer
+hammer_after n r = pick (marked r.text) (Some (record { row = n; key = first_key r.members })) None
 
 -- an ottava goes on over rows of one kind; a rest of that kind neither ends, extends nor starts it; a grace row, which has none, ends it
 abbrev pub under : RowIs → Bool
 under r = not (eqb (ottava_word r.ottava) (ottava_word NoOttava)) && not r.rest
 
-abbrev pub same_kind : RowIs → OttavaRun → Bool
-same_kind r NoRun = false
-same_kind r (Over n kind) = eqb (ottava_word r.ottava) (ottava_word kind)
+abbrev pub same_kind : RowIs → Option OttavaRun → Bool
+same_kind r None = false
+same_kind r (Some o) = eqb (ottava_word r.ottava) (ottava_word o.kind)
 
-abbrev pub ottava_marks : RowIs → OttavaRun → OttavaMarks
+abbrev pub ottava_marks : RowIs → Option OttavaRun → OttavaMarks
 ottava_marks r run = record { start = pick (under r && not (same_kind r run)) r.ottava NoOttava; end = under r }
 
-abbrev pub run_after : ℕ → RowIs → OttavaRun → OttavaRun
-run_after n r run = pick (under r) (Over n r.ottava) (pick (r.rest && same_kind r run) run NoRun)
+abbrev pub run_after : ℕ → RowIs → Option OttavaRun → Option OttavaRun
+run_after n r run = pick (under r) (Some (record { row = n; kind = r.ottava })) (pick (r.rest && same_kind r run) run None)
 
 -- the members that the next beat's ties may start on: a rest has none, a grace leaves them
 abbrev pub last_after : RowKind → Span → Span → Span
@@ -199,7 +193,7 @@ last_after Beat own last = own
 -- ---- a voice and a part, at first
 
 abbrev pub no_voice : Voice
-no_voice = record { frets = no_memory; hammer = NoHammer; last = record { first = 0; count = 0 }; run = NoRun }
+no_voice = record { frets = no_memory; hammer = None; last = record { first = 0; count = 0 }; run = None }
 
 abbrev pub board_of : TrackHeader → Fretboard
 board_of t = record { strings = t.strings; capo = t.capo; percussion = t.percussion; tablature = t.tablature }
@@ -282,7 +276,7 @@ empty_bytes (x ∷ xs) = false
 abbrev pub has_text : BeatIs → Bool
 has_text b = b.head.kept && not (empty_bytes b.text.bytes)
 
-abbrev pub with_frets : Voice → List Remembered → Voice
+abbrev pub with_frets : Voice → List (Option ℕ) → Voice
 with_frets v frets = record { frets = frets; hammer = v.hammer; last = v.last; run = v.run }
 
 -- ---- adding
@@ -317,13 +311,13 @@ module _ {T : Kind → Type 0} (the : Operations T) where
       }
 
   -- ---- a row
-  abbrev pub turn_hammer : Hammer → RowIs → T rows → T rows
-  turn_hammer NoHammer r t = t
-  turn_hammer (Waits n key) r t = pick (pulls r key) (the.pull_off n t) t
+  abbrev pub turn_hammer : Option Hammer → RowIs → T rows → T rows
+  turn_hammer None r t = t
+  turn_hammer (Some w) r t = pick (pulls r w.key) (the.pull_off w.row t) t
 
-  abbrev pub turn_run : OttavaRun → RowIs → T rows → T rows
-  turn_run NoRun r t = t
-  turn_run (Over n kind) r t = pick (under r && same_kind r (Over n kind)) (the.carry_on n t) t
+  abbrev pub turn_run : Option OttavaRun → RowIs → T rows → T rows
+  turn_run None r t = t
+  turn_run (Some o) r t = pick (under r && same_kind r (Some (record { row = o.row; kind = o.kind }))) (the.carry_on o.row t) t
 
   -- a tie starts on the previous kept beat of the same voice if that is no rest
   abbrev pub start_ties : Span → List Member → T members → T members

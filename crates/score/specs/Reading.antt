@@ -1,5 +1,5 @@
 -- What reading a file into lent tables answers, and what it leaves in them.
-use Rattle.std.specs.Prelude.{ℕ, ◌/◌, Bool, ◌&&◌, List, leb, get_or, length}
+use Rattle.std.specs.Prelude.{ℕ, ◌/◌, Bool, ◌&&◌, List, leb, get_or, length, Option}
 use Rattle.bin.specs.Signed.{signed}
 use Rattle.format.specs.Text.{pick}
 use Rattle.format.specs.Verdict.{Verdict, whole, truncated, too_long, bad_version, bad_count, empty, verdict}
@@ -8,7 +8,6 @@ use Rattle.model.specs.declared.Answer.{Answer}
 use Rattle.model.specs.declared.Outcome.TheVariants as O
 use Rattle.model.specs.declared.Sizes.{Sizes}
 use Rattle.model.specs.declared.Song.{Song}
-use Rattle.model.specs.declared.Tempo.{Tempo}
 use Rattle.model.specs.declared.Text.{Text}
 use Rattle.model.specs.Answers.{read_answer, refusal, no_room_answer, losses_of}
 use Rattle.entries.specs.Words.{bar_stride, bar_words, track_stride, track_words, row_stride, row_words, member_stride, member_words, point_stride, point_words, text_stride, text_words}
@@ -36,7 +35,7 @@ abbrev pub Score : Type 0
 Score = Whole (Staves Lists) (Walk Lists)
 
 -- the song's tempo is that of bar 0 if it has one, else the file's
-unfoldable pub song_of : F.Opening → Tempo → ℕ → Song
+unfoldable pub song_of : F.Opening → Option ℕ → ℕ → Song
 song_of g first used =
     record {
       used = used;

@@ -1,5 +1,5 @@
 -- Rows: what a kept beat gives, with its members and its curve.
-use Rattle.std.specs.Prelude.{ℕ, List, [], ◌∷◌, ◌++◌, map, Bool, true, false, ◌&&◌, ◌||◌, eqb}
+use Rattle.std.specs.Prelude.{ℕ, List, [], ◌∷◌, ◌++◌, map, Bool, true, false, ◌&&◌, ◌||◌, eqb, None, Option, Some}
 use Rattle.format.specs.declared.Range.{Range}
 use Rattle.format.specs.Text.{pick}
 use Rattle.model.specs.declared.Articulation.{Articulation}
@@ -7,7 +7,6 @@ use Rattle.model.specs.declared.Articulation.TheVariants as A
 use Rattle.model.specs.declared.Arpeggio.{Arpeggio}
 use Rattle.model.specs.declared.Arpeggio.TheVariants.{NoArpeggio}
 use Rattle.model.specs.declared.Duration.TheVariants.{ThirtySecond}
-use Rattle.model.specs.declared.Tuplet.TheVariants.{NoTuplet}
 use Rattle.model.specs.declared.NoteValue.{NoteValue}
 use Rattle.model.specs.declared.NoteHead.{NoteHead}
 use Rattle.model.specs.declared.NoteHead.TheVariants.{Normal, Cross}
@@ -26,8 +25,6 @@ use Rattle.model.specs.declared.RowPlace.{RowPlace}
 use Rattle.model.specs.Marks.{add_once, packed}
 use Rattle.curve.specs.Bend.{point_of, finish}
 use Rattle.curve.specs.Level.{chord_of, level_after}
-use Rattle.curve.specs.declared.level.Level.{Level}
-use Rattle.curve.specs.declared.level.Level.TheVariants.{Absent}
 use Rattle.curve.specs.declared.level.NoteLevel.{NoteLevel}
 use Rattle.curve.specs.declared.slide.SlideEffect.{SlideEffect}
 use Rattle.format.specs.Prog.{has}
@@ -36,8 +33,6 @@ use Rattle.note.specs.declared.marks.NoteEffects.{NoteEffects}
 use Rattle.note.specs.declared.NoteRead.{NoteRead}
 use Rattle.beat.specs.declared.effects.PickStroke.{PickStroke}
 use Rattle.beat.specs.declared.effects.PickStroke.TheVariants as P
-use Rattle.note.specs.declared.marks.Tremolo.{Tremolo}
-use Rattle.note.specs.declared.marks.Tremolo.TheVariants.{NoTremolo, Strokes}
 use Rattle.note.specs.Points.{BendPoint}
 use Rattle.beat.specs.Beat.{BeatIs}
 use Rattle.score.specs.declared.Fretboard.{Fretboard}
@@ -53,7 +48,7 @@ pub record RowIs : Type 0 where
   pub text : TechniqueText
   pub technique : Technique
   pub curve : List Point
-  pub dynamic : Level
+  pub dynamic : Option ℕ
   pub articulations : Articulations
   pub arpeggio : Arpeggio
   pub head : NoteHead
@@ -73,9 +68,9 @@ only false a = []
 abbrev pub strokes : ℕ → Articulation
 strokes n = pick (eqb n 1) A.Tremolo1 (pick (eqb n 2) A.Tremolo2 A.Tremolo3)
 
-abbrev pub tremolos : Tremolo → List Articulation
-tremolos NoTremolo = []
-tremolos (Strokes n) = strokes n ∷ []
+abbrev pub tremolos : Option ℕ → List Articulation
+tremolos None = []
+tremolos (Some n) = strokes n ∷ []
 
 abbrev pub slides : SlideEffect → List Articulation
 slides s = only s.falloff A.Falloff ++ only s.doit A.Doit ++ only s.scoop A.Scoop ++ only s.plop A.Plop
@@ -195,7 +190,7 @@ rest_row place b =
       text = NoText;
       technique = NoTechnique;
       curve = [];
-      dynamic = Absent;
+      dynamic = None;
       articulations = packed [];
       arpeggio = NoArpeggio;
       head = Normal;
@@ -246,12 +241,12 @@ grace_row place board flat beat gs =
       place = place;
       kind = K.Grace;
       rest = false;
-      value = record { duration = ThirtySecond; dot = false; tuplet = NoTuplet };
+      value = record { duration = ThirtySecond; dot = false; tuplet = None };
       members = map (grace_member board flat) gs;
       text = grace_text gs;
       technique = grace_technique NoTechnique gs;
       curve = [];
-      dynamic = Absent;
+      dynamic = None;
       articulations = packed [];
       arpeggio = NoArpeggio;
       head = grace_head gs;

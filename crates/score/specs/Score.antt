@@ -1,14 +1,11 @@
 -- The six tables as lists of entries: what a whole file gives.
-use Rattle.std.specs.Prelude.{ℕ, zero, suc, ◌+◌, List, [], ◌∷◌, ◌++◌, Bool, true, false, ◌&&◌, get_or, eqb}
+use Rattle.std.specs.Prelude.{ℕ, zero, suc, ◌+◌, List, [], ◌∷◌, ◌++◌, Bool, true, false, ◌&&◌, get_or, eqb, None, Option, Some}
 use Rattle.format.specs.Text.{pick, no_text}
 use Rattle.tables.specs.Table.{change}
 use Rattle.model.specs.declared.Member.{Member}
 use Rattle.model.specs.declared.Finger.TheVariants.{NoFinger}
 use Rattle.model.specs.declared.TabPosition.{TabPosition}
-use Rattle.model.specs.declared.TabPosition.TheVariants.{OffTablature, Fretted}
 use Rattle.model.specs.declared.Technique.TheVariants.{PullOff}
-use Rattle.model.specs.declared.Tempo.{Tempo}
-use Rattle.model.specs.declared.Tempo.TheVariants.{NoTempo, Bpm}
 use Rattle.entries.specs.Changed.{with_place, with_tempo, with_technique, with_ottava_end, with_tie_start}
 use Rattle.track.specs.Track.{no_track}
 use Rattle.score.specs.declared.Part.{Part}
@@ -22,23 +19,23 @@ abbrev pub Lists : Kind → Type 0
 Lists k = List (Entry k)
 
 -- the first tempo of 1..999 in a bar stays
-abbrev pub first_tempo : Tempo → Tempo → Tempo
-first_tempo NoTempo t = t
-first_tempo (Bpm n) t = Bpm n
+abbrev pub first_tempo : Option ℕ → Option ℕ → Option ℕ
+first_tempo None t = t
+first_tempo (Some n) t = Some n
 
 -- on tablature at the same string, otherwise at the first member of equal key
-abbrev pub same_place : TabPosition → TabPosition → Bool → Bool
-same_place (Fretted s f) (Fretted t g) by_key = eqb s t
-same_place (Fretted s f) OffTablature by_key = false
-same_place OffTablature (Fretted t g) by_key = by_key
-same_place OffTablature OffTablature by_key = by_key
+abbrev pub same_place : Option TabPosition → Option TabPosition → Bool → Bool
+same_place (Some a) (Some b) by_key = eqb a.string b.string
+same_place (Some a) None by_key = false
+same_place None (Some b) by_key = by_key
+same_place None None by_key = by_key
 
 abbrev pub answers : Member → Member → Bool
 answers tied m = same_place tied.position m.position (eqb tied.key m.key)
 
 abbrev pub no_member : Member
 no_member =
-    record { key = 0; flat = false; position = OffTablature; ghosted = false; ties = record { end = false; start = false }; finger = NoFinger }
+    record { key = 0; flat = false; position = None; ghosted = false; ties = record { end = false; start = false }; finger = NoFinger }
 
 -- count members, from number i on
 abbrev pub start_first : (i count : ℕ) → Member → List Member → List Member

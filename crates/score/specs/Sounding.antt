@@ -1,30 +1,27 @@
 -- Notes: which of a beat's notes sound, at which fret, and what their voice remembers.
-use Rattle.std.specs.Prelude.{ℕ, zero, suc, ◌+◌, List, [], ◌∷◌, Bool, ◌&&◌, get_or, replicate, set, ltb}
+use Rattle.std.specs.Prelude.{ℕ, zero, suc, ◌+◌, List, [], ◌∷◌, Bool, ◌&&◌, get_or, replicate, set, ltb, None, Option, Some}
 use Rattle.format.specs.Text.{pick}
 use Rattle.note.specs.declared.NoteRead.{NoteRead}
 use Rattle.format.specs.Prog.{has}
 use Rattle.note.specs.Note.{NoteIs, no_note}
 use Rattle.note.specs.Notes.{string_bit}
 use Rattle.beat.specs.Beat.{BeatIs}
-use Rattle.score.specs.declared.LastFret.{LastFret}
-use Rattle.score.specs.declared.LastFret.TheVariants.{NoFret, Fret}
-use Rattle.score.specs.declared.Remembered.{Remembered}
 use Rattle.score.specs.declared.Fretboard.{Fretboard}
 
 -- for each string of a voice, no fret or the last fret
 abbrev pub Memory : Type 0
-Memory = List Remembered
+Memory = List (Option ℕ)
 
-abbrev pub nothing : Remembered
-nothing = record { fret = NoFret }
+abbrev pub nothing : Option ℕ
+nothing = None
 
 abbrev pub no_memory : Memory
 no_memory = replicate 7 nothing
 
 -- a tie takes the remembered fret; without one it keeps the read fret
-abbrev pub fret_of : LastFret → NoteRead → ℕ
-fret_of NoFret n = n.fret
-fret_of (Fret f) n = pick n.tie f n.fret
+abbrev pub fret_of : Option ℕ → NoteRead → ℕ
+fret_of None n = n.fret
+fret_of (Some f) n = pick n.tie f n.fret
 
 -- a note that sounds: its string in file order, and its fret
 pub record Sounding : Type 0 where
@@ -44,7 +41,7 @@ note_at beat i = get_or beat.notes i no_note
 
 abbrev pub sounding_at : Memory → BeatIs → ℕ → Sounding
 sounding_at memory beat i =
-    record { string = i; fret = fret_of (get_or memory i nothing).fret (note_at beat i).read; note = note_at beat i }
+    record { string = i; fret = fret_of (get_or memory i nothing) (note_at beat i).read; note = note_at beat i }
 
 -- the notes from string i on, k of them: a note on a string changes the memory of that string alone, so each sees the memory
 -- that the beat began with
@@ -61,4 +58,4 @@ sounding board memory beat = sounding_from 7 0 board memory beat
 -- reading a note changes that memory where it stands, kept beat or not
 abbrev pub remember : Memory → List Sounding → Memory
 remember memory [] = memory
-remember memory (x ∷ xs) = remember (set memory x.string (record { fret = Fret x.fret })) xs
+remember memory (x ∷ xs) = remember (set memory x.string (Some x.fret)) xs

@@ -7,43 +7,31 @@ use track::Strings;
 
 // ---- what is remembered of a track
 
-// The last fret of a string.
-#[derive(Clone, Copy)]
-pub enum LastFret {
-    NoFret,
-    Fret(u8),
-}
-
-#[derive(Clone, Copy)]
-pub struct Remembered {
-    pub fret: LastFret,
-}
-
 // A row with the hammer mark, which the next row of its voice may turn to a pull-off: its number and its first key.
-#[derive(Clone, Copy)]
-pub enum Hammer {
-    NoHammer,
-    Waits(u32, u8),
+#[derive(Clone, Copy, PartialEq, Eq)]
+pub struct Hammer {
+    pub row: u32,
+    pub key: u8,
 }
 
 // An ottava that the next row of its voice may carry on: the number of the last row under it, and its kind.
-#[derive(Clone, Copy)]
-pub enum OttavaRun {
-    NoRun,
-    Over(u32, Ottava),
+#[derive(Clone, Copy, PartialEq, Eq)]
+pub struct OttavaRun {
+    pub row: u32,
+    pub kind: Ottava,
 }
 
-// `last` are the members of the row of the voice's last kept beat.
-#[derive(Clone, Copy)]
+// The last fret of each string; `last` are the members of the row of the voice's last kept beat.
+#[derive(Clone, Copy, PartialEq, Eq)]
 pub struct Voice {
-    pub frets: [Remembered; 7],
-    pub hammer: Hammer,
+    pub frets: [Option<u8>; 7],
+    pub hammer: Option<Hammer>,
     pub last: Span,
-    pub run: OttavaRun,
+    pub run: Option<OttavaRun>,
 }
 
 // What the notes of a track are played on.
-#[derive(Clone, Copy)]
+#[derive(Clone, Copy, PartialEq, Eq)]
 pub struct Fretboard {
     pub strings: Strings,
     pub capo: u8,
@@ -51,8 +39,8 @@ pub struct Fretboard {
     pub tablature: bool,
 }
 
-// One running dynamic for both voices.
-#[derive(Clone, Copy)]
+// One running dynamic for both voices, which are told by their place and not by a number.
+#[derive(Clone, Copy, PartialEq, Eq)]
 pub struct Part {
     pub board: Fretboard,
     pub running: u8,
@@ -63,22 +51,23 @@ pub struct Part {
 // ---- what is counted on the way
 
 // After a bar's header: the last key read in any bar so far, and the bar's ending, 0 for none.
-#[derive(Clone, Copy)]
+#[derive(Clone, Copy, PartialEq, Eq)]
 pub struct Before {
     pub key: Key,
     pub ending: u8,
 }
 
-// Rows, members and curve points kept.
-#[derive(Clone, Copy)]
+// Rows, members and curve points kept: on the way, and not the sizes of an answer.
+#[derive(Clone, Copy, PartialEq, Eq)]
 pub struct KeptCounts {
     pub rows: u32,
     pub members: u32,
     pub points: u32,
 }
 
-// What is kept, texts too; the rooms needed of points and texts; whether flats are preferred in the bar; the seventeen losses.
-#[derive(Clone, Copy)]
+// What is kept, texts too; the rooms needed of points and texts; whether flats are preferred in the bar; the seventeen losses by
+// their numbers, as a report finds its own.
+#[derive(Clone, Copy, PartialEq, Eq)]
 pub struct Tally {
     pub kept: KeptCounts,
     pub texts: u32,

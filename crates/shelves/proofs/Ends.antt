@@ -7,11 +7,10 @@ use native.Mathlib.Omega.{arith}
 use borrow.Author.Tests.{le-leb, lt-leb, lt-ltb, le-ltb}
 use lib.Dec.{ltb}
 use lib.ListN.{length}
-use Rattle.format.specs.declared.Place.{Place}
-use Rattle.format.specs.declared.Place.TheVariants.{At, Stopped}
+use Rattle.std.specs.Prelude.{Ok, Err}
 use Rattle.format.specs.declared.Stop.{Stop}
 use Rattle.format.specs.declared.Stop.TheVariants as S
-use Rattle.format.specs.Place.{Reaches}
+use Rattle.format.specs.Place.{ReadsAs, told}
 use Rattle.format.specs.Prog.{ok, stopped, run}
 use Rattle.format.specs.Verdict.{LIMIT, stop_verdict, up_to}
 use Rattle.format.proofs.Verdict.{end_of, verdict_upto}
@@ -32,15 +31,15 @@ stop_is d S.Version = refl
 stop_is d (S.Count which value offset) = refl
 stop_is d S.Empty = refl
 
-module _ (d : List ℕ) {s : List ℕ} (is : s ≡ up_to LIMIT d) {g : Opening} {to : Place} (f : Reaches opening s (At 0) g to) where
-  pub ends_refused : {x : Stop} → to ≡ Stopped x → not_shown (stop_answer (ltb LIMIT (length d)) x) ≡ shelving d
-  unfolding shelving
-  ends_refused {x} e =
-      let stops : run opening (up_to LIMIT d) 0 ≡ stopped x = rw (e, is) at f.reaches in
+module _ (d : List ℕ) {s : List ℕ} (is : s ≡ up_to LIMIT d) {A : Type 0} {meant : A → Opening} where
+  pub ends_refused : {x : Stop} → ReadsAs meant opening s (Ok 0) (Err x) → not_shown (stop_answer (ltb LIMIT (length d)) x) ≡ shelving d
+  unfolding shelving told
+  ends_refused {x} f =
+      let stops : run opening (up_to LIMIT d) 0 ≡ stopped x = rw is at f.reads in
       rw (verdict_upto opening d, stops, stop_is d x)
 
-  pub ends_shown : {n : ℕ} → to ≡ At n → shown g ≡ shelving d
-  unfolding shelving
-  ends_shown {n} e =
-      let reads : run opening (up_to LIMIT d) 0 ≡ ok g n = rw (e, is) at f.reaches in
+  pub ends_shown : {a : A} {n : ℕ} → ReadsAs meant opening s (Ok 0) (Ok (a, n)) → shown (meant a) ≡ shelving d
+  unfolding shelving told
+  ends_shown {a} {n} f =
+      let reads : run opening (up_to LIMIT d) 0 ≡ ok (meant a) n = rw is at f.reads in
       rw (verdict_upto opening d, reads)

@@ -4,7 +4,7 @@
 ghost use Rattle.std.specs.Prelude.{◌≡◌};
 ghost use Rattle.shelves.specs.Shelf.{shelving};
 
-use format::{LIMIT, Place};
+use format::LIMIT;
 use view::Shelf;
 
 pub mod view; // what is shown
@@ -15,10 +15,8 @@ pub fn shelf(data: &[u8]) -> Shelf
 {
     let s = verdict::up_to(data, LIMIT);
     let mut programs = [[0u8; 16]; 4];
-    let song = front::song_at(s, Place::At(0), &mut programs);
-    let at = song.next;
-    if let Place::Stopped(stop) = at {
-        return view::refused(verdict::refusal_of(stop, LIMIT < data.len()));
+    match front::song_at(s, Ok(0), &mut programs) {
+        Ok((song, _)) => view::shown(song),
+        Err(stop) => view::refused(verdict::refusal_of(stop, LIMIT < data.len())),
     }
-    view::shown(song)
 }

@@ -1,4 +1,4 @@
-// What is shown of a file, or why nothing is.
+// What is shown of a file, or why nothing is: no Result, since the equation `shelving` and the words that C gets say the outcome beside it.
 ghost use Rattle.std.specs.Prelude.{◌≡◌, []};
 ghost use Rattle.front.specs.Front.{song_of};
 ghost use Rattle.shelves.specs.Shelf as shelved;
@@ -48,7 +48,7 @@ pub(crate) fn shown(song: SongRead) -> Shelf
     }
 }
 
-// The words of a shelf.
+// The words of a shelf, in the order in which C gets them.
 pub const WORDS: usize = 11;
 
 pub fn words_of(shelf: Shelf) -> [u32; WORDS]

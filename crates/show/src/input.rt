@@ -1,21 +1,16 @@
-// An input such as standard input, with a failed read told from the end.
+// An input such as standard input, as far as there is room for it.
+use std::io;
 use std::io::Read;
 
-#[derive(Clone, Copy)]
-pub enum Input {
-    // so many bytes: the whole input, or as many as there is room for
-    Bytes(usize),
-    Failed,
-}
-
-pub fn read(from: &mut impl Read, room: &mut [u8]) -> Input {
-    let mut n: usize = 0;
+// The whole input, or as much as there is room for.
+pub fn read<'a>(from: &mut impl Read, room: &'a mut [u8]) -> io::Result<&'a [u8]> {
+    let mut n = 0;
     while n < room.len() {
-        match from.read(&mut room[n..]) {
-            Ok(0) => return Input::Bytes(n),
-            Ok(more) => n += more,
-            Err(_) => return Input::Failed,
+        let more = from.read(&mut room[n..])?;
+        if more == 0 {
+            break;
         }
+        n += more;
     }
-    Input::Bytes(n)
+    Ok(&room[..n])
 }

@@ -1,13 +1,16 @@
 // The six lent tables: what they hold before a reading, the reading, and what they hold after it.
 use model::Answer;
-
-pub const TABLES: usize = 6;
+use show::Tables;
+use show::record::TABLES;
+use std::array;
 
 // Words of a table, of which a part is lent.
 pub const TABLE: usize = 1024;
 
-// The six tables, one after another.
-pub const ALL: usize = TABLES * TABLE;
+// The six tables whole, each with the words of it that were not lent.
+pub type Lent = [[u32; TABLE]; TABLES];
+
+const NAMES: [&str; TABLES] = ["bars", "tracks", "rows", "members", "points", "texts"];
 
 // What word `i` of a table holds before a reading: something else in each word, and for each reading.
 fn held(reading: u32, table: usize, i: usize) -> u32 {
@@ -16,30 +19,17 @@ fn held(reading: u32, table: usize, i: usize) -> u32 {
 }
 
 fn held_table(reading: u32, table: usize) -> [u32; TABLE] {
-    let mut words = [0u32; TABLE];
-    let mut i: usize = 0;
-    while i < TABLE {
-        words[i] = held(reading, table, i);
-        i += 1;
-    }
-    words
+    array::from_fn(|i| held(reading, table, i))
 }
 
 // So many words of a table, from its first on, or all.
 fn part(t: &mut [u32], words: u32) -> &mut [u32] {
-    let n = words as usize;
-    if n < t.len() {
-        return &mut t[..n];
-    }
-    t
+    let n = t.len().min(words as usize);
+    &mut t[..n]
 }
 
-fn keep(after: &mut [u32; ALL], table: usize, t: &[u32; TABLE]) {
-    tables::store_entry(after, table, t);
-}
-
-// Reads a file into so many words of each table. The tables are left in `after` whole, with the words that were not lent.
-pub fn lend(after: &mut [u32; ALL], file: &[u8], sizes: [u32; TABLES], reading: u32) -> Answer {
+// Reads a file into so many words of each table.
+pub fn lend(file: &[u8], sizes: [u32; TABLES], reading: u32) -> (Answer, Lent) {
     let mut bars = held_table(reading, 0);
     let mut tracks = held_table(reading, 1);
     let mut rows = held_table(reading, 2);
@@ -55,47 +45,43 @@ pub fn lend(after: &mut [u32; ALL], file: &[u8], sizes: [u32; TABLES], reading: 
         part(&mut points, sizes[4]),
         part(&mut texts, sizes[5]),
     );
-    keep(after, 0, &bars);
-    keep(after, 1, &tracks);
-    keep(after, 2, &rows);
-    keep(after, 3, &members);
-    keep(after, 4, &points);
-    keep(after, 5, &texts);
-    answer
+    (answer, [bars, tracks, rows, members, points, texts])
+}
+
+pub fn tables(lent: &Lent) -> Tables<'_> {
+    Tables {
+        bars: &lent[0],
+        tracks: &lent[1],
+        rows: &lent[2],
+        members: &lent[3],
+        points: &lent[4],
+        texts: &lent[5],
+    }
 }
 
 // Whether a table has the right words as far as entries are kept, and from there on those that it held.
-fn is_right(after: &[u32], right: &[u32], kept: usize, reading: u32, table: usize) -> bool {
-    let mut i: usize = 0;
-    while i < TABLE {
-        let wanted = if i < kept {
-            tables::load(right, i)
-        } else {
-            held(reading, table, i)
-        };
-        if tables::load(after, i) != wanted {
-            return false;
-        }
-        i += 1;
-    }
-    true
+fn is_right(
+    after: &[u32; TABLE],
+    right: &[u32; TABLE],
+    kept: u32,
+    reading: u32,
+    table: usize,
+) -> bool {
+    let n = TABLE.min(kept as usize);
+    after[..n] == right[..n] && (n..TABLE).all(|i| after[i] == held(reading, table, i))
 }
 
-// The number, from 1 on, of the first table that is not right, and 0 where all are. Of each so many words are kept.
+// The first table that is not right, by its name. Of each so many words are kept.
 pub fn wrong_table(
-    after: &[u32; ALL],
-    right: &[u32; ALL],
+    after: &Lent,
+    right: &Lent,
     kept: [u32; TABLES],
     reading: u32,
-) -> u32 {
-    let mut table: usize = 0;
-    while table < TABLES {
-        let found = tables::entry_of(after, table, TABLE);
-        let wanted = tables::entry_of(right, table, TABLE);
-        if !is_right(found, wanted, kept[table] as usize, reading, table) {
-            return tables::up(table as u32);
+) -> Option<&'static str> {
+    for (table, name) in NAMES.iter().enumerate() {
+        if !is_right(&after[table], &right[table], kept[table], reading, table) {
+            return Some(name);
         }
-        table += 1;
     }
-    0
+    None
 }

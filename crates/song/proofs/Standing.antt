@@ -1,9 +1,9 @@
 -- The parts of the song's fields stand where those were read.
+use Rattle.std.specs.Prelude.{Option}
 use Prim.Native.Nat.{ℕ, ◌≤◌}
 use mathlib.Core.List.{List}
 use Rattle.format.specs.Prog.{Prog}
 use Rattle.format.specs.Fields.{fixed_string}
-use Rattle.model.specs.declared.Tempo.{Tempo}
 use Rattle.model.specs.declared.LyricLine.{LyricLine}
 use Rattle.model.specs.declared.Lyrics.{Lyrics}
 use Rattle.song.specs.declared.info.Names.{Names}
@@ -46,7 +46,7 @@ module _ {B : Type 0} {s : List ℕ} {q : Prog B} {from at n : ℕ} where
       reads_parts _ _ w (λ _ _ b w. reads_parts _ _ w (λ _ _ c _. (somewhere a, (ns, somewhere b), somewhere c))))
 
   -- page and tempo
-  pub setup_has : (v : ℕ) {t : Tempo} → Reads s q from (setup v) at t n → Has s q from (page v) × Has s q from (tempo v)
+  pub setup_has : (v : ℕ) {t : Option ℕ} → Reads s q from (setup v) at t n → Has s q from (page v) × Has s q from (tempo v)
   unfolding setup
   setup_has v w = reads_parts _ _ w (λ _ _ _ w. reads_parts _ _ w (λ _ _ a b. (somewhere a, somewhere b)))
 

@@ -1,5 +1,5 @@
 -- The song's texts, its notices and its lyrics.
-use Rattle.std.specs.Prelude.{ℕ, Bool, false, not, ◌||◌, ◌∷◌, [], leb, eqb}
+use Rattle.std.specs.Prelude.{ℕ, Bool, false, not, ◌||◌, ◌∷◌, [], leb, eqb, None, Option, Some}
 use Rattle.format.specs.declared.Range.{Range}
 use Rattle.format.specs.declared.Counted.TheVariants as C
 use Rattle.format.specs.Text.{TextRead, pick}
@@ -7,8 +7,6 @@ use Rattle.format.specs.Prog.{Prog, ret, bind, when_le, turns}
 use Rattle.format.specs.Count.{NEGATIVE}
 use Rattle.format.specs.Fields.{u8, u32, less_one, count, int_byte_string_unused, int_byte_string_unused_past, int_string}
 use Rattle.model.specs.declared.LyricLine.{LyricLine}
-use Rattle.model.specs.declared.LyricTrack.{LyricTrack}
-use Rattle.model.specs.declared.LyricTrack.TheVariants.{NoLyricTrack, Under}
 use Rattle.model.specs.declared.Lyrics.{Lyrics}
 use Rattle.model.specs.Answers.{no_range, no_lyrics}
 use Rattle.song.specs.declared.info.Names.{Names}
@@ -72,14 +70,14 @@ triplet_feel v = when_le 500 v (ret false) (bind u8 (λ b. ret (not (eqb b 0))))
 
 -- ---- lyrics: a track and five lines from v400 on, none before
 -- none for a value below 1, else the number less one; not bounded by the number of tracks (docs/RULES.md 25)
-unfoldable pub lyric_track : ℕ → LyricTrack
-lyric_track v = pick (leb NEGATIVE v || eqb v 0) NoLyricTrack (Under (less_one v))
+unfoldable pub lyric_track : ℕ → Option ℕ
+lyric_track v = pick (leb NEGATIVE v || eqb v 0) None (Some (less_one v))
 
 -- a start and a text
 unfoldable pub lyric_line : Prog LyricLine
 lyric_line = bind u32 (λ v. bind int_string (λ t. ret (record { start = less_one v; text = t.range })))
 
-unfoldable pub five_lines : LyricTrack → Prog Lyrics
+unfoldable pub five_lines : Option ℕ → Prog Lyrics
 five_lines track =
     bind lyric_line (λ a. bind lyric_line (λ b. bind lyric_line (λ c. bind lyric_line (λ d. bind lyric_line (λ e.
     ret (record { track = track; lines = a ∷ b ∷ c ∷ d ∷ e ∷ [] }))))))

@@ -1,6 +1,5 @@
 -- Page setup, tempo, channel table and directions.
-use Rattle.std.specs.Prelude.{ℕ, List, replicate, set, leb}
-use Rattle.model.specs.declared.Tempo.{Tempo}
+use Rattle.std.specs.Prelude.{ℕ, List, replicate, set, leb, Option}
 use Rattle.model.specs.Kinds.{tempo_from}
 use Rattle.format.specs.Text.{pick}
 use Rattle.format.specs.Prog.{Prog, ret, bind, when_le, turns}
@@ -28,11 +27,11 @@ unfoldable pub octave : ℕ → Prog Unit
 octave v = when_le 400 v (skip 1) (ret tt)
 
 -- the file's tempo; passed over: "global key"
-unfoldable pub tempo : ℕ → Prog Tempo
+unfoldable pub tempo : ℕ → Prog (Option ℕ)
 tempo v = bind u32 (λ t. bind (hide_tempo v) (λ _. bind (skip 4) (λ _. bind (octave v) (λ _. ret (tempo_from t)))))
 
 -- page setup and tempo
-unfoldable pub setup : ℕ → Prog Tempo
+unfoldable pub setup : ℕ → Prog (Option ℕ)
 setup v = bind (equalizer v) (λ _. bind (page v) (λ _. tempo v))
 
 -- ---- channel table: four ports of sixteen channels; a program outside 0..127 is 0

@@ -1,27 +1,21 @@
 // The song's texts, its notices and its lyrics.
-ghost use Rattle.std.specs.Prelude.{◌≡◌, false};
+ghost use Rattle.std.specs.Prelude.{◌≡◌, Ok};
 ghost use Rattle.format.specs.Text.{text_in};
-ghost use Rattle.format.specs.Place.{Gives, Reaches};
-ghost use Rattle.model.specs.Answers.{no_lyrics};
+ghost use Rattle.format.specs.Place.{Reaches, Reads, ReadsAs};
 ghost use Rattle.song.specs.Info as info;
 
 use bin::NEGATIVE;
-use bin::string::{StringRead, int_byte_string_unused, int_byte_string_unused_past};
-use format::{Counted, NO_RANGE, Place, Range};
+use bin::signed::less_one;
+use bin::string::{int_byte_string_unused, int_byte_string_unused_past};
+use format::{Counted, Place, Range, Reading};
 use model::answers::no_lyrics;
-use model::{LyricLine, LyricTrack, Lyrics};
+use model::{LyricLine, Lyrics};
 
 #[derive(Clone, Copy)]
 pub struct Names {
     pub title: Range,
     pub subtitle: Range,
     pub artist: Range,
-}
-
-#[derive(Clone, Copy)]
-struct NamesRead {
-    names: Names,
-    next: Place,
 }
 
 // What the answer says of the song.
@@ -34,68 +28,32 @@ pub struct Info {
     pub copyright: Range,
 }
 
-#[derive(Clone, Copy)]
-pub struct InfoRead {
-    pub info: Info,
-    pub next: Place,
-}
-
-// Whether a triplet feel is lost.
-#[derive(Clone, Copy)]
-pub struct FeelRead {
-    pub lost: bool,
-    pub next: Place,
-}
-
-#[derive(Clone, Copy)]
-struct LineRead {
-    line: LyricLine,
-    next: Place,
-}
-
-#[derive(Clone, Copy)]
-pub struct LyricsRead {
-    pub lyrics: Lyrics,
-    pub next: Place,
-}
-
-fn names_at(s: &[u8], from: Place) -> NamesRead
-    ensures { Reaches info.names s.now from result.names result.next }
+fn names_at(s: &[u8], from: Place) -> Reading<Names>
+    ensures { Reads info.names s.now from result }
 {
-    let title = int_byte_string_unused(s, from);
-    let at = title.next;
-    let subtitle = int_byte_string_unused(s, at);
-    let at = subtitle.next;
-    let artist = int_byte_string_unused(s, at);
-    let at = artist.next;
-    let next = int_byte_string_unused_past(s, at);
-    let title = title.range;
-    let subtitle = subtitle.range;
-    let artist = artist.range;
-    NamesRead {
-        names: Names {
-            title,
-            subtitle,
-            artist,
-        },
-        next,
-    }
+    let (title, at) = int_byte_string_unused(s, from)?;
+    let (subtitle, at) = int_byte_string_unused(s, Ok(at))?;
+    let (artist, at) = int_byte_string_unused(s, Ok(at))?;
+    let at = int_byte_string_unused_past(s, Ok(at))?;
+    let names = Names {
+        title,
+        subtitle,
+        artist,
+    };
+    Ok((names, at))
 }
 
 // The music credit from v500 on; before, it is the words.
-fn music_at(s: &[u8], from: Place, v: u32, words: Range) -> StringRead
-    ensures { Reaches (info.music v (text_in s.now words)) s.now from
-        (text_in s.now result.range) result.next }
+fn music_at(s: &[u8], at: usize, v: u32, words: Range) -> Reading<Range>
+    ensures { ReadsAs (text_in s.now) (info.music v (text_in s.now words)) s.now (Ok at) result }
 {
     if 500 <= v {
-        return int_byte_string_unused(s, from);
+        return int_byte_string_unused(s, Ok(at));
     }
-    StringRead {
-        range: words,
-        next: from,
-    }
+    Ok((words, at))
 }
 
+// A text that is not given is 0 and 0, as the tables and C have it (docs/TABLES.md).
 fn composer_of(music: Range, artist: Range) -> Range
     ensures { result ≡ info.composer_of music artist }
 {
@@ -105,169 +63,99 @@ fn composer_of(music: Range, artist: Range) -> Range
     music
 }
 
-fn credits_at(s: &[u8], from: Place, v: u32, names: Names) -> InfoRead
-    ensures { Reaches (info.credits v names) s.now from result.info result.next }
+fn credits_at(s: &[u8], at: usize, v: u32, names: Names) -> Reading<Info>
+    ensures { Reads (info.credits v names) s.now (Ok at) result }
 {
-    let words = int_byte_string_unused(s, from);
-    let at = words.next;
-    let lyricist = words.range;
-    let music = music_at(s, at, v, lyricist);
-    let at = music.next;
-    let copyright = int_byte_string_unused(s, at);
-    let at = copyright.next;
-    let next = int_byte_string_unused_past(s, int_byte_string_unused_past(s, at));
-    let title = names.title;
-    let subtitle = names.subtitle;
-    let composer = composer_of(music.range, names.artist);
-    let copyright = copyright.range;
-    InfoRead {
-        info: Info {
-            title,
-            subtitle,
-            composer,
-            lyricist,
-            copyright,
-        },
-        next,
-    }
+    let (lyricist, at) = int_byte_string_unused(s, Ok(at))?;
+    let (music, at) = music_at(s, at, v, lyricist)?;
+    let (copyright, at) = int_byte_string_unused(s, Ok(at))?;
+    let at = int_byte_string_unused_past(s, int_byte_string_unused_past(s, Ok(at)))?;
+    let info = Info {
+        title: names.title,
+        subtitle: names.subtitle,
+        composer: composer_of(music, names.artist),
+        lyricist,
+        copyright,
+    };
+    Ok((info, at))
 }
 
-fn notices_at(s: &[u8], from: Place) -> Place
-    ensures { Gives info.notices tt s.now from tt result }
+fn notices_at(s: &[u8], from: usize) -> Place
+    ensures { Reaches info.notices s.now (Ok from) tt result }
 {
-    let count = bin::count_at(s, from, Counted::NoticeLines);
-    let n = count.value;
-    let mut at = count.next;
+    let (n, at) = bin::count_at(s, Ok(from), Counted::NoticeLines)?;
+    let mut at = at;
     let mut i: u32 = 0;
     while i < n {
-        let Place::At(_) = at else {
-            return at;
-        };
-        at = int_byte_string_unused_past(s, at);
+        at = int_byte_string_unused_past(s, Ok(at))?;
         i += 1;
     }
-    at
-}
-
-fn no_info() -> Info
-    ensures { result ≡ info.no_info }
-{
-    Info {
-        title: NO_RANGE,
-        subtitle: NO_RANGE,
-        composer: NO_RANGE,
-        lyricist: NO_RANGE,
-        copyright: NO_RANGE,
-    }
+    Ok(at)
 }
 
 // Names and credits; the notices after them are passed over.
-pub fn info_at(s: &[u8], from: Place, v: u32) -> InfoRead
-    ensures { Gives (info.info v) info.no_info s.now from result.info result.next }
+pub fn info_at(s: &[u8], from: Place, v: u32) -> Reading<Info>
+    ensures { Reads (info.info v) s.now from result }
 {
-    let read = names_at(s, from);
-    let at = read.next;
-    let names = read.names;
-    let credits = credits_at(s, at, v, names);
-    let at = credits.next;
-    let next = notices_at(s, at);
-    let Place::At(_) = next else {
-        return InfoRead {
-            info: no_info(),
-            next,
-        };
-    };
-    let info = credits.info;
-    InfoRead { info, next }
+    let (names, at) = names_at(s, from)?;
+    let (info, at) = credits_at(s, at, v, names)?;
+    let at = notices_at(s, at)?;
+    Ok((info, at))
 }
 
 // Before v500 the song says whether it has a triplet feel, which is lost.
-pub fn triplet_feel_at(s: &[u8], from: Place, v: u32) -> FeelRead
-    ensures { Gives (info.triplet_feel v) false s.now from result.lost result.next }
+pub fn triplet_feel_at(s: &[u8], from: Place, v: u32) -> Reading<bool>
+    ensures { Reads (info.triplet_feel v) s.now from result }
 {
+    let at = from?;
     if 500 <= v {
-        return FeelRead {
-            lost: false,
-            next: from,
-        };
+        return Ok((false, at));
     }
-    let feel = bin::u8_at(s, from);
-    let next = feel.next;
-    FeelRead {
-        lost: feel.value != 0,
-        next,
-    }
+    let (feel, at) = bin::u8_at(s, Ok(at))?;
+    Ok((feel != 0, at))
 }
 
-fn lyric_track(v: u32) -> LyricTrack
+fn lyric_track(v: u32) -> Option<u32>
     ensures { result ≡ info.lyric_track v }
 {
     if NEGATIVE <= v {
-        return LyricTrack::NoLyricTrack;
+        return None;
     }
     if v == 0 {
-        return LyricTrack::NoLyricTrack;
+        return None;
     }
-    LyricTrack::Under(bin::signed::less_one(v))
+    Some(less_one(v))
 }
 
-fn line_at(s: &[u8], from: Place) -> LineRead
-    ensures { Reaches info.lyric_line s.now from result.line result.next }
+fn line_at(s: &[u8], at: usize) -> Reading<LyricLine>
+    ensures { Reads info.lyric_line s.now (Ok at) result }
 {
-    let start = bin::u32_at(s, from);
-    let at = start.next;
-    let text = bin::string::int_string(s, at);
-    let next = text.next;
-    let start = bin::signed::less_one(start.value);
-    let text = text.range;
-    LineRead {
-        line: LyricLine { start, text },
-        next,
-    }
+    let (start, at) = bin::u32_at(s, Ok(at))?;
+    let (text, at) = bin::string::int_string(s, Ok(at))?;
+    let start = less_one(start);
+    Ok((LyricLine { start, text }, at))
 }
 
-fn five_lines_at(s: &[u8], from: Place, track: LyricTrack) -> LyricsRead
-    ensures { Gives (info.five_lines track) no_lyrics s.now from result.lyrics result.next }
+fn five_lines_at(s: &[u8], at: usize, track: Option<u32>) -> Reading<Lyrics>
+    ensures { Reads (info.five_lines track) s.now (Ok at) result }
 {
-    let a = line_at(s, from);
-    let at = a.next;
-    let b = line_at(s, at);
-    let at = b.next;
-    let c = line_at(s, at);
-    let at = c.next;
-    let d = line_at(s, at);
-    let at = d.next;
-    let e = line_at(s, at);
-    let next = e.next;
-    let Place::At(_) = next else {
-        return LyricsRead {
-            lyrics: no_lyrics(),
-            next,
-        };
-    };
-    let a = a.line;
-    let b = b.line;
-    let c = c.line;
-    let d = d.line;
-    let e = e.line;
+    let (a, at) = line_at(s, at)?;
+    let (b, at) = line_at(s, at)?;
+    let (c, at) = line_at(s, at)?;
+    let (d, at) = line_at(s, at)?;
+    let (e, at) = line_at(s, at)?;
     let lines = [a, b, c, d, e];
-    LyricsRead {
-        lyrics: Lyrics { track, lines },
-        next,
-    }
+    Ok((Lyrics { track, lines }, at))
 }
 
 // The lyric track and five lines from v400 on.
-pub fn lyrics_at(s: &[u8], from: Place, v: u32) -> LyricsRead
-    ensures { Gives (info.lyrics v) no_lyrics s.now from result.lyrics result.next }
+pub fn lyrics_at(s: &[u8], from: Place, v: u32) -> Reading<Lyrics>
+    ensures { Reads (info.lyrics v) s.now from result }
 {
+    let at = from?;
     if v < 400 {
-        return LyricsRead {
-            lyrics: no_lyrics(),
-            next: from,
-        };
+        return Ok((no_lyrics(), at));
     }
-    let track = bin::u32_at(s, from);
-    let at = track.next;
-    five_lines_at(s, at, lyric_track(track.value))
+    let (track, at) = bin::u32_at(s, Ok(at))?;
+    five_lines_at(s, at, lyric_track(track))
 }

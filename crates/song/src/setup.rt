@@ -1,33 +1,11 @@
 // Page setup and tempo, the channel table, and directions.
-ghost use Rattle.std.specs.Prelude.{◌≡◌};
-ghost use Rattle.format.specs.Place.{Gives, Reaches};
-ghost use Rattle.model.specs.declared.Tempo.TheVariants.{NoTempo};
+ghost use Rattle.std.specs.Prelude.{◌≡◌, Ok};
+ghost use Rattle.format.specs.Place.{Gives, Reaches, Reads, ReadsAs};
 ghost use Rattle.song.specs.Setup as setup;
 
+use bin::skip_at;
 use bin::string::int_byte_string_past;
-use bin::{Byte, skip_at};
-use format::Place;
-use model::Tempo;
-
-#[derive(Clone, Copy)]
-pub struct SetupRead {
-    pub tempo: Tempo,
-    pub next: Place,
-}
-
-// The programs of a port's channels.
-#[derive(Clone, Copy)]
-struct PortRead {
-    programs: [u8; 16],
-    next: Place,
-}
-
-// The bars that the directions name, 0 where one names none.
-#[derive(Clone, Copy)]
-pub struct DirectionsRead {
-    pub bars: [u16; 19],
-    pub next: Place,
-}
+use format::{Place, Reading};
 
 fn equalizer_at(s: &[u8], from: Place, v: u32) -> Place
     ensures { Reaches (setup.equalizer v) s.now from tt result }
@@ -78,28 +56,18 @@ fn octave_at(s: &[u8], from: Place, v: u32) -> Place
     from
 }
 
-fn tempo_at(s: &[u8], from: Place, v: u32) -> SetupRead
-    ensures { Gives (setup.tempo v) NoTempo s.now from result.tempo result.next }
+fn tempo_at(s: &[u8], from: Place, v: u32) -> Reading<Option<u16>>
+    ensures { Reads (setup.tempo v) s.now from result }
 {
-    let tempo = bin::u32_at(s, from);
-    let at = tempo.next;
-    let at = hide_tempo_at(s, at, v);
-    let next = octave_at(s, skip_at(s, at, 4), v);
-    let Place::At(_) = next else {
-        return SetupRead {
-            tempo: Tempo::NoTempo,
-            next,
-        };
-    };
-    SetupRead {
-        tempo: model::kinds::tempo_from(tempo.value),
-        next,
-    }
+    let (tempo, at) = bin::u32_at(s, from)?;
+    let at = hide_tempo_at(s, Ok(at), v);
+    let at = octave_at(s, skip_at(s, at, 4), v)?;
+    Ok((model::kinds::tempo_from(tempo), at))
 }
 
 // The page's setup is passed over; then the file's tempo.
-pub fn setup_at(s: &[u8], from: Place, v: u32) -> SetupRead
-    ensures { Gives (setup.setup v) NoTempo s.now from result.tempo result.next }
+pub fn setup_at(s: &[u8], from: Place, v: u32) -> Reading<Option<u16>>
+    ensures { Reads (setup.setup v) s.now from result }
 {
     let at = page_at(s, equalizer_at(s, from, v), v);
     tempo_at(s, at, v)
@@ -114,31 +82,27 @@ fn program_of(v: u32) -> u8
     0
 }
 
-fn channel_at(s: &[u8], from: Place) -> Byte
-    ensures { Reaches setup.channel s.now from result.value result.next }
+fn channel_at(s: &[u8], at: usize) -> Reading<u8>
+    ensures { Reads setup.channel s.now (Ok at) result }
 {
-    let program = bin::u32_at(s, from);
-    let at = program.next;
-    let next = skip_at(s, at, 8);
-    Byte {
-        value: program_of(program.value),
-        next,
-    }
+    let (program, at) = bin::u32_at(s, Ok(at))?;
+    let at = skip_at(s, Ok(at), 8)?;
+    Ok((program_of(program), at))
 }
 
-fn port_at(s: &[u8], from: Place) -> PortRead
-    ensures { Reaches setup.port s.now from result.programs result.next }
+fn port_at(s: &[u8], from: usize) -> Reading<[u8; 16]>
+    ensures { Reads setup.port s.now (Ok from) result }
 {
     let mut programs = [0u8; 16];
     let mut at = from;
     let mut i = 0;
     while i < 16 {
-        let channel = channel_at(s, at);
-        programs[i] = channel.value;
-        at = channel.next;
+        let (program, next) = channel_at(s, at)?;
+        programs[i] = program;
+        at = next;
         i += 1;
     }
-    PortRead { programs, next: at }
+    Ok((programs, at))
 }
 
 // The programs of four ports of sixteen channels. No struct can hold an array of arrays, so the table is a local of the
@@ -146,25 +110,22 @@ fn port_at(s: &[u8], from: Place) -> PortRead
 pub fn channel_table_at(s: &[u8], from: Place, programs: &mut [[u8; 16]; 4]) -> Place
     ensures { Gives setup.channel_table setup.no_ports s.now from programs.new result }
 {
+    *programs = [[0u8; 16]; 4];
+    let mut at = from?;
     let mut table = [[0u8; 16]; 4];
-    let mut at = from;
     let mut i = 0;
     while i < 4 {
-        let port = port_at(s, at);
-        let row = port.programs;
+        let (row, next) = port_at(s, at)?;
         table[i] = row;
-        at = port.next;
+        at = next;
         i += 1;
     }
-    let Place::At(_) = at else {
-        *programs = [[0u8; 16]; 4];
-        return at;
-    };
     *programs = table;
-    at
+    Ok(at)
 }
 
-// A bar number that is not above 0 names no bar.
+// A bar number that is not above 0 names no bar. A plain 0 says so: no bar has the number 0, so that to compare it with a bar's needs
+// no case.
 fn bar_number(v: u32) -> u16
     ensures { result ≡ setup.bar_number v }
 {
@@ -174,40 +135,30 @@ fn bar_number(v: u32) -> u16
     v as u16
 }
 
-fn nineteen_at(s: &[u8], from: Place) -> DirectionsRead
-    ensures { Reaches setup.nineteen s.now from result.bars result.next }
+fn nineteen_at(s: &[u8], from: usize) -> Reading<[u16; 19]>
+    ensures { Reads setup.nineteen s.now (Ok from) result }
 {
     let mut bars = [0u16; 19];
     let mut at = from;
     let mut i = 0;
     while i < 19 {
-        let bar = bin::u16_at(s, at);
-        bars[i] = bar_number(bar.value);
-        at = bar.next;
+        let (bar, next) = bin::u16_at(s, Ok(at))?;
+        bars[i] = bar_number(bar);
+        at = next;
         i += 1;
     }
-    DirectionsRead { bars, next: at }
+    Ok((bars, at))
 }
 
 // Nineteen bar numbers from v500 on.
-pub fn directions_at(s: &[u8], from: Place, v: u32) -> DirectionsRead
-    ensures { Gives (setup.directions v) setup.no_directions s.now from result.bars result.next }
+pub fn directions_at(s: &[u8], from: Place, v: u32) -> Reading<[u16; 19]>
+    ensures { Reads (setup.directions v) s.now from result }
 {
+    let at = from?;
     if v < 500 {
-        return DirectionsRead {
-            bars: [0u16; 19],
-            next: from,
-        };
+        return Ok(([0u16; 19], at));
     }
-    let read = nineteen_at(s, from);
-    let at = read.next;
-    let next = skip_at(s, at, 4);
-    let Place::At(_) = next else {
-        return DirectionsRead {
-            bars: [0u16; 19],
-            next,
-        };
-    };
-    let bars = read.bars;
-    DirectionsRead { bars, next }
+    let (bars, at) = nineteen_at(s, at)?;
+    let at = skip_at(s, Ok(at), 4)?;
+    Ok((bars, at))
 }

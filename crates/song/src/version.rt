@@ -1,11 +1,10 @@
 // The version: compared in the input, where its text stands.
 ghost use Rattle.std.specs.Prelude.{◌≡◌, ◌+◌, ◌≤◌, min, take, drop};
 ghost use Rattle.std.proofs.Math.Seq.{slice};
-ghost use Rattle.format.specs.Place.{Gives};
+ghost use Rattle.format.specs.Place.{Reads, ReadsAs};
 ghost use Rattle.song.specs.Version.{PREFIX, starts, is_digit, digits_len, digits_from, short, version_number, version_of, is_family, version};
 
-use bin::Number;
-use format::{Place, Stop};
+use format::{Place, Reading, Stop};
 
 // What a version's text starts with, up to its number.
 const PREFIX: [u8; 20] = *b"FICHIER GUITAR PRO v";
@@ -144,27 +143,16 @@ fn part(s: &[u8], start: usize, end: usize) -> &[u8]
 }
 
 // A version that is not in 300..599, or is unreadable, is refused.
-pub fn version_at(s: &[u8], from: Place) -> Number
-    ensures { Gives version 0 s.now from result.value result.next }
+pub fn version_at(s: &[u8], from: Place) -> Reading<u32>
+    ensures { Reads version s.now from result }
 {
-    let text = bin::string::fixed_string(s, from, 30);
-    let next = text.next;
-    let Place::At(_) = next else {
-        return Number { value: 0, next };
-    };
-    let range = text.range;
-    let v = version_of(part(s, range.start, range.end));
+    let (text, at) = bin::string::fixed_string(s, from, 30)?;
+    let v = version_of(part(s, text.start, text.end));
     if v < 300 {
-        return Number {
-            value: 0,
-            next: Place::Stopped(Stop::Version),
-        };
+        return Err(Stop::Version);
     }
-    if v <= 599 {
-        return Number { value: v, next };
+    if 599 < v {
+        return Err(Stop::Version);
     }
-    Number {
-        value: 0,
-        next: Place::Stopped(Stop::Version),
-    }
+    Ok((v, at))
 }

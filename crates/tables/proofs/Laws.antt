@@ -13,7 +13,7 @@ use Rattle.tables.specs.Table.{entry, words, over, change}
 -- ---- runs of stores
 
 -- past the end nothing is stored
-pub sets_out : (w t : List ℕ) (i : ℕ) → length t ≤ i → sets t i w ≡ t
+pub sets_out : {A : Type 0} (w t : List A) (i : ℕ) → length t ≤ i → sets t i w ≡ t
 sets_out [] t i h = refl
 sets_out (x ∷ w) t i h = rw (set_out t i x h) (sets_out w t (suc i) (omega arith))
 
@@ -36,7 +36,7 @@ entry_stored w t i K e h =
     (take_at w (drop (i * K + length w) t) K e)
 
 -- two runs, one after the other, are one run
-pub sets_append : (u v t : List ℕ) (i n : ℕ) → length u ≡ n → sets (sets t i u) (i + n) v ≡ sets t i (u ++ v)
+pub sets_append : {A : Type 0} (u v t : List A) (i n : ℕ) → length u ≡ n → sets (sets t i u) (i + n) v ≡ sets t i (u ++ v)
 sets_append [] v t i n e = rw (← e, add-zero)
 sets_append (x ∷ u) v t i n e =
     let k : i + n ≡ suc i + length u = omega arith in

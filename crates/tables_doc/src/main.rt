@@ -1,17 +1,25 @@
 // Writes docs/TABLES.md: the text on standard input, with the words of one example entry of each table, in order, where it has a '~'.
 #![tactic(auto)]
 
-ghost use Rattle.std.specs.Prelude.{◌≤◌, length, IfOk};
-
+use entries::Entry;
+use entries::bars::BAR_WORDS;
+use entries::members::MEMBER_WORDS;
+use entries::points::POINT_WORDS;
+use entries::rows::ROW_WORDS;
+use entries::texts::TEXT_WORDS;
+use entries::tracks::TRACK_WORDS;
 use format::Range;
 use model::{
-    Arpeggio, Articulation, Bar, Cents, Changes, Clef, Direction, Duration, Dynamic, Ending,
-    EndingPlace, Expression, Finger, Height, Key, Member, Mode, NoteHead, NoteValue, Ottava,
-    OttavaMarks, Passes, PerMille, Playing, Point, Program, Repeats, Row, RowKind, RowPlace, Span,
-    TabPosition, Technique, TechniqueText, Tempo, Text, Ties, Time, Track, Tunings, Tuplet, marks,
+    Arpeggio, Articulation, Bar, Cents, Changes, Clef, Direction, Duration, Dynamic, EndingPlace,
+    Expression, Finger, Key, Member, Mode, NoteHead, NoteValue, Ottava, OttavaMarks, PerMille,
+    Playing, Point, Repeats, Row, RowKind, RowPlace, Span, TabPosition, Technique, TechniqueText,
+    Text, Ties, Time, Track, Tunings, Tuplet, marks,
 };
 use std::io;
-use std::io::Read;
+use std::io::{BufWriter, Write};
+
+// Words of one entry of each table.
+const WORDS: usize = BAR_WORDS + TRACK_WORDS + ROW_WORDS + MEMBER_WORDS + POINT_WORDS + TEXT_WORDS;
 
 const MARK: u8 = b'~';
 
@@ -42,12 +50,12 @@ fn a_bar() -> Bar {
         key: Key::Fifths(-3, Mode::Minor),
         changed,
         repeats,
-        ending: Ending::Nth(2),
-        passes: Passes::Mask(6),
+        ending: Some(2),
+        passes: Some(6),
         place: EndingPlace::Begin,
         marker,
         direction: Direction::DalSegnoAlCoda,
-        tempo: Tempo::Bpm(96),
+        tempo: Some(96),
     }
 }
 
@@ -75,7 +83,7 @@ fn a_track() -> Track {
         tablature: true,
         clef: Clef::Treble,
         channel: 3,
-        program: Program::Midi(25),
+        program: Some(25),
     }
 }
 
@@ -97,7 +105,7 @@ fn a_playing() -> Playing {
         text: TechniqueText::PalmMute,
         technique: Technique::Bend,
         curve,
-        height: Height::Peak(Cents(-100)),
+        height: Some(Cents(-100)),
     }
 }
 
@@ -111,7 +119,10 @@ fn a_row() -> Row {
     let value = NoteValue {
         duration: Duration::Eighth,
         dot: true,
-        tuplet: Tuplet::Ratio(3, 2),
+        tuplet: Some(Tuplet {
+            actual: 3,
+            normal: 2,
+        }),
     };
     let members = Span { first: 7, count: 2 };
     let playing = a_playing();
@@ -152,7 +163,7 @@ fn a_member() -> Member {
     Member {
         key: 57,
         flat: false,
-        position: TabPosition::Fretted(3, 2),
+        position: Some(TabPosition { string: 3, fret: 2 }),
         ghosted: true,
         ties,
         finger: Finger::Ring,
@@ -178,61 +189,39 @@ fn a_text() -> Text {
     }
 }
 
-// The entries stand one after another, as the page has them.
-fn store_bars_tracks_rows(words: &mut [u32])
-    requires { 76 ≤ length words.old }
-{
-    entries::bars::store_bar(&mut words[0..16], 0, a_bar());
-    entries::tracks::store_track(&mut words[16..32], 0, a_track());
-    entries::rows::store_row(&mut words[32..62], 0, a_row());
+// The words of the six entries, one after another, as the page has them.
+fn store_all(words: &mut [u32; WORDS]) {
+    let (bar, left) = words.split_at_mut(BAR_WORDS);
+    let (track, left) = left.split_at_mut(TRACK_WORDS);
+    let (row, left) = left.split_at_mut(ROW_WORDS);
+    let (member, left) = left.split_at_mut(MEMBER_WORDS);
+    let (point, text) = left.split_at_mut(POINT_WORDS);
+    a_bar().store(bar, 0);
+    a_track().store(track, 0);
+    a_row().store(row, 0);
+    a_member().store(member, 0);
+    a_point().store(point, 0);
+    a_text().store(text, 0);
 }
 
-fn store_members_points_texts(words: &mut [u32])
-    requires { 76 ≤ length words.old }
-{
-    entries::members::store_member(&mut words[62..70], 0, a_member());
-    entries::points::store_point(&mut words[70..72], 0, a_point());
-    entries::texts::store_text(&mut words[72..76], 0, a_text());
-}
-
-// Input as far as there is room for it; gives how many bytes it has.
-fn read_full(from: &mut impl Read, room: &mut [u8]) -> io::Result<usize>
-    ensures { IfOk result (λ n. n ≤ length room.new) }
-{
-    let mut n: usize = 0;
-    while n < room.len() {
-        let more = from.read(&mut room[n..])?;
-        if more == 0 {
-            return Ok(n);
-        }
-        n += more;
-    }
-    Ok(n)
-}
-
-// A byte of the text, or the word in its place; gives the number of the next word.
-fn write_byte(rt: &impl Print, byte: u8, words: &[u32], k: u32) -> io::Result<u32> {
-    if byte == MARK {
-        rt.print(tables::load(words, k as usize))?;
-        return Ok(tables::up(k));
-    }
-    rt.write_all(&[byte])?;
-    Ok(k)
-}
-
-fn write_filled(rt: &impl Print, text: &[u8], words: &[u32]) -> io::Result<()> {
-    let mut k: u32 = 0;
+// The text with a word in the place of each mark; past the last word stands 0.
+fn write_filled(out: &mut impl Write, text: &[u8], words: &[u32; WORDS]) -> io::Result<()> {
+    let mut words = words.iter();
     for byte in text {
-        k = write_byte(rt, *byte, words, k)?;
+        if *byte == MARK {
+            write!(out, "{}", words.next().unwrap_or(&0))?;
+        } else {
+            out.write_all(&[*byte])?;
+        }
     }
-    Ok(())
+    out.flush()
 }
 
 fn main(rt: HostRuntime) -> io::Result<()> {
-    let mut words = [0u32; 76];
-    store_bars_tracks_rows(&mut words);
-    store_members_points_texts(&mut words);
-    let mut text = [0u8; TEXT];
-    let n = read_full(&mut rt.reader(), &mut text)?;
-    write_filled(&rt, &text[..n], &words)
+    let mut words = [0; WORDS];
+    store_all(&mut words);
+    let mut room = [0; TEXT];
+    let text = show::input::read(&mut rt.reader(), &mut room)?;
+    let mut out = BufWriter::new(rt.alloc(), io::writer(&rt))?;
+    write_filled(&mut out, text, &words)
 }

@@ -1,5 +1,6 @@
 -- What an engraver can check on the page: where every beat is kept, a member on tablature that ends a tie has the fret
 -- last shown on its string.
+use Rattle.std.specs.Prelude.{None, Option, Some}
 use Prim.Native.Nat.{ℕ, ◌-◌}
 use mathlib.Core.Path.{◌≡◌, refl, sym, ap, ◌∙◌}
 use mathlib.Core.Bool.{Bool, true, false, false≢true}
@@ -9,10 +10,7 @@ use Rattle.format.specs.Text.{pick}
 use Rattle.format.specs.Yields.{Bytes}
 use Rattle.model.specs.declared.RowPlace.{RowPlace}
 use Rattle.model.specs.declared.TabPosition.{TabPosition}
-use Rattle.model.specs.declared.TabPosition.TheVariants.{OffTablature, Fretted}
 use Rattle.score.specs.declared.Fretboard.{Fretboard}
-use Rattle.score.specs.declared.LastFret.{LastFret}
-use Rattle.score.specs.declared.LastFret.TheVariants.{NoFret, Fret}
 use Rattle.score.specs.Sounding.{note_at}
 use Rattle.score.specs.Members.{Keyed, Graced, graces}
 use Rattle.score.specs.Page.{keeping}
@@ -34,28 +32,31 @@ use Rattle.teacher.proofs.Shown.{below, graces_pass, shown_is_read}
 -- ---- what is to be shown
 abbrev TieShown : List SeenRow → RowPlace → Seen → Type 0
 TieShown before place m =
-    m.tied ≡ true → (string fret : ℕ) → m.position ≡ Fretted string fret
+    m.tied ≡ true → (string fret : ℕ) → m.position ≡ Some (record { string = string; fret = fret })
     → SameFret fret (last_shown place.track place.voice string before)
 
 abbrev RowShown : List SeenRow → SeenRow → Type 0
 RowShown before r = RowHas TieShown before r
 
 -- ---- a position on tablature tells its string and its fret
-abbrev on_tablature : TabPosition → Bool
-on_tablature OffTablature = false
-on_tablature (Fretted s f) = true
+abbrev fretted : ℕ → ℕ → Option TabPosition
+fretted string fret = Some (record { string = string; fret = fret })
 
-abbrev string_of : TabPosition → ℕ
-string_of OffTablature = 0
-string_of (Fretted s f) = s
+abbrev on_tablature : Option TabPosition → Bool
+on_tablature None = false
+on_tablature (Some at) = true
 
-abbrev fret_at : TabPosition → ℕ
-fret_at OffTablature = 0
-fret_at (Fretted s f) = f
+abbrev string_of : Option TabPosition → ℕ
+string_of None = 0
+string_of (Some at) = at.string
 
-own_or_last : (l : LastFret) (own : ℕ) → SameFret (or_own l own) l
-own_or_last NoFret own = tt
-own_or_last (Fret f) own = refl
+abbrev fret_at : Option TabPosition → ℕ
+fret_at None = 0
+fret_at (Some at) = at.fret
+
+own_or_last : (l : Option ℕ) (own : ℕ) → SameFret (or_own l own) l
+own_or_last None own = tt
+own_or_last (Some f) own = refl
 
 -- ---- the rows of one beat, where those before show what was read
 module _ (tracks : List TrackTold) (b : BeatTold) (es : List Event) (before : List SeenRow) (kept : All KeptBeat es)
@@ -80,12 +81,12 @@ module _ (tracks : List TrackTold) (b : BeatTold) (es : List Event) (before : Li
   note_shown m f tied string fret p = go board.tablature refl (sym p ∙ f.position)
     where
       go : (t : Bool) → board.tablature ≡ t
-          → Fretted string fret ≡ pick t (Fretted (board.strings.count - f.string) f.fret) OffTablature
+          → fretted string fret ≡ pick t (fretted (board.strings.count - f.string) f.fret) None
           → SameFret fret (last_shown b.track b.voice string above)
       go false tab e = absurd (false≢true (sym (ap on_tablature e)))
       go true tab e =
           let at : string ≡ board.strings.count - f.string = ap string_of e in
-          let last : LastFret = last_read_in tracks b.track b.voice f.string es in
+          let last : (Option ℕ) = last_read_in tracks b.track b.voice f.string es in
           let taken : fret ≡ or_own last (note_at b.beat f.string).read.fret =
           ap fret_at e ∙ f.last ∙ tie_takes last (note_at b.beat f.string).read (sym f.tied ∙ tied) in
           rw (at, last_shown_lem m f tab, taken) (own_or_last last (note_at b.beat f.string).read.fret)

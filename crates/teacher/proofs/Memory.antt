@@ -1,4 +1,5 @@
 -- What a voice remembers of a string is the fret last read on it.
+use Rattle.std.specs.Prelude.{Option, Some}
 use Prim.Native.Nat.{ℕ, zero, suc, ◌+◌, ◌≤◌, ◌<◌}
 use native.Mathlib.Omega.{arith}
 use mathlib.Core.Path.{◌≡◌, refl, ap, ◌∙◌}
@@ -11,9 +12,6 @@ use lib.Seq.{get_or-set_same, get_or-set_other, ext_get_or}
 use Rattle.format.specs.Text.{pick}
 use Rattle.beat.specs.Beat.{BeatIs}
 use Rattle.score.specs.declared.Fretboard.{Fretboard}
-use Rattle.score.specs.declared.LastFret.{LastFret}
-use Rattle.score.specs.declared.LastFret.TheVariants.{Fret}
-use Rattle.score.specs.declared.Remembered.{Remembered}
 use Rattle.score.specs.Sounding.{Memory, nothing, sounds, sounding_at, sounding_from, sounding, remember}
 use Rattle.told.specs.Told.{BeatTold, Event, plays}
 use Rattle.refine.proofs.Heard.{length-remember}
@@ -22,8 +20,8 @@ use Rattle.teacher.specs.Teacher.{of_voice, last_read}
 
 -- ---- the seven strings of a voice, each with the fret last read on it
 module _ (strings track voice : ℕ) (es : List Event) where
-  abbrev pub read_on : ℕ → Remembered
-  read_on i = record { fret = last_read strings track voice i es }
+  abbrev pub read_on : ℕ → Option ℕ
+  read_on i = last_read strings track voice i es
 
   abbrev pub read_from : ℕ → ℕ → Memory
   read_from zero i = []
@@ -42,8 +40,8 @@ module _ (strings track voice : ℕ) (es : List Event) where
 
 -- ---- a beat changes what is remembered of the strings that sound in it, and of no other
 module _ (board : Fretboard) (memory : Memory) (b : BeatIs) where
-  abbrev heard_at : ℕ → Remembered
-  heard_at i = record { fret = Fret (sounding_at memory b i).fret }
+  abbrev heard_at : ℕ → Option ℕ
+  heard_at i = Some (sounding_at memory b i).fret
 
   stays : (k i j : ℕ) (m : Memory) → j < i
       → get_or (remember m (sounding_from k i board memory b)) j nothing ≡ get_or m j nothing
@@ -91,10 +89,10 @@ module _ (board : Fretboard) (memory : Memory) (b : BeatIs) where
   unfolding sounding
   remembers seven i h = hears 7 0 i memory (omega arith) (omega arith) (omega arith)
 
-abbrev remembered : LastFret → Remembered
-remembered f = record { fret = f }
+abbrev remembered : Option ℕ → Option ℕ
+remembered f = f
 
-choice : (t : Bool) (new old : LastFret) → pick t (remembered new) (remembered old) ≡ remembered (pick t new old)
+choice : (t : Bool) (new old : Option ℕ) → pick t (remembered new) (remembered old) ≡ remembered (pick t new old)
 choice true new old = refl
 choice false new old = refl
 

@@ -1,4 +1,5 @@
 -- The notes of a beat that the page shows: each on a string that sounds in the beat, at its fret.
+use Rattle.std.specs.Prelude.{None, Option, Some}
 use Prim.Native.Nat.{ℕ, zero, suc, ◌+◌, ◌≤◌, ◌<◌}
 use native.Mathlib.Omega.{arith}
 use mathlib.Core.Path.{◌≡◌, refl, sym, ap, ◌∙◌}
@@ -11,8 +12,6 @@ use Rattle.format.specs.Text.{pick}
 use Rattle.beat.specs.Beat.{BeatIs}
 use Rattle.note.specs.declared.NoteRead.{NoteRead}
 use Rattle.score.specs.declared.Fretboard.{Fretboard}
-use Rattle.score.specs.declared.LastFret.{LastFret}
-use Rattle.score.specs.declared.LastFret.TheVariants.{NoFret, Fret}
 use Rattle.score.specs.Sounding.{Memory, fret_of, Sounding, sounds, note_at, sounding_at, sounding_from, sounding}
 use Rattle.score.specs.Members.{Keyed, keyed, put_in, ordered, in_order, position_of}
 use Rattle.refine.proofs.All.{All}
@@ -23,9 +22,9 @@ use Rattle.teacher.proofs.Memory.{all_read, all_read_at}
 use Rattle.teacher.proofs.Walk.{seen_note, notes_of}
 
 -- a tie takes the fret last read, or keeps its own
-pub tie_takes : (l : LastFret) (n : NoteRead) → n.tie ≡ true → fret_of l n ≡ or_own l n.fret
-tie_takes NoFret n e = refl
-tie_takes (Fret f) n e = rw e
+pub tie_takes : (l : Option ℕ) (n : NoteRead) → n.tie ≡ true → fret_of l n ≡ or_own l n.fret
+tie_takes None n e = refl
+tie_takes (Some f) n e = rw e
 
 -- ---- each note that sounds is that of a string
 pub record HeardOf (board : Fretboard) (memory : Memory) (b : BeatIs) (x : Sounding) : Type 0 where

@@ -1,4 +1,5 @@
 -- What is seen of the rows that are kept: each new row stands after those before it, and what is seen of those stays.
+use Rattle.std.specs.Prelude.{None, Option, Some}
 use Prim.Native.Nat.{ℕ, zero, suc, ◌+◌, ◌≤◌}
 use native.Mathlib.Omega.{arith}
 use mathlib.Core.Path.{◌≡◌, refl, sym, ◌∙◌}
@@ -16,9 +17,7 @@ use Rattle.model.specs.declared.Span.{Span}
 use Rattle.model.specs.declared.Technique.TheVariants.{PullOff}
 use Rattle.entries.specs.Changed.{with_technique, with_ottava_end, with_tie_start}
 use Rattle.score.specs.declared.Hammer.{Hammer}
-use Rattle.score.specs.declared.Hammer.TheVariants.{NoHammer, Waits}
 use Rattle.score.specs.declared.OttavaRun.{OttavaRun}
-use Rattle.score.specs.declared.OttavaRun.TheVariants.{NoRun, Over}
 use Rattle.score.specs.Rows.{RowIs}
 use Rattle.score.specs.Page as Page
 use Rattle.score.specs.Page.{Rowing, span_of, fingered, row_entry, pulls, under, same_kind, ottava_marks}
@@ -54,37 +53,37 @@ fingers_unseen [] = refl
 fingers_unseen (m ∷ []) = refl
 fingers_unseen (m ∷ n ∷ ms) = refl
 
-hammer_unseen : (q : List Seen) (h : Hammer) (r : RowIs) (rs : List Row)
+hammer_unseen : (q : List Seen) (h : Option Hammer) (r : RowIs) (rs : List Row)
     → map (seen_row q) (turn_hammer lists h r rs) ≡ map (seen_row q) rs
-hammer_unseen q NoHammer r rs = refl
-hammer_unseen q (Waits n key) r rs =
-    pick_both (λ l. map (seen_row q) l ≡ map (seen_row q) rs) (pulls r key) (lists.pull_off n rs) rs
-    (unseen (seen_row q) (with_technique PullOff) (λ a. refl) rs n) refl
+hammer_unseen q None r rs = refl
+hammer_unseen q (Some w) r rs =
+    pick_both (λ l. map (seen_row q) l ≡ map (seen_row q) rs) (pulls r w.key) (lists.pull_off w.row rs) rs
+    (unseen (seen_row q) (with_technique PullOff) (λ a. refl) rs w.row) refl
 
-run_unseen : (q : List Seen) (o : OttavaRun) (r : RowIs) (rs : List Row)
+run_unseen : (q : List Seen) (o : Option OttavaRun) (r : RowIs) (rs : List Row)
     → map (seen_row q) (turn_run lists o r rs) ≡ map (seen_row q) rs
-run_unseen q NoRun r rs = refl
-run_unseen q (Over n kind) r rs =
-    pick_both (λ l. map (seen_row q) l ≡ map (seen_row q) rs) (under r && same_kind r (Over n kind)) (lists.carry_on n rs) rs
-    (unseen (seen_row q) (with_ottava_end false) (λ a. refl) rs n) refl
+run_unseen q None r rs = refl
+run_unseen q (Some o) r rs =
+    pick_both (λ l. map (seen_row q) l ≡ map (seen_row q) rs) (under r && same_kind r (Some o)) (lists.carry_on o.row rs) rs
+    (unseen (seen_row q) (with_ottava_end false) (λ a. refl) rs o.row) refl
 
 -- ---- the members of a row stand inside the table of n members
 abbrev pub Within : ℕ → Row → Type 0
 Within n r = r.members.first + r.members.count ≤ n
 
-hammer_within : (n : ℕ) (h : Hammer) (r : RowIs) (rs : List Row) → All (Within n) rs
+hammer_within : (n : ℕ) (h : Option Hammer) (r : RowIs) (rs : List Row) → All (Within n) rs
     → All (Within n) (turn_hammer lists h r rs)
-hammer_within n NoHammer r rs f = f
-hammer_within n (Waits k key) r rs f =
-    pick_both (All (Within n)) (pulls r key) (lists.pull_off k rs) rs
-    (all_change (Within n) (with_technique PullOff) (λ a g. g) rs k f) f
+hammer_within n None r rs f = f
+hammer_within n (Some w) r rs f =
+    pick_both (All (Within n)) (pulls r w.key) (lists.pull_off w.row rs) rs
+    (all_change (Within n) (with_technique PullOff) (λ a g. g) rs w.row f) f
 
-run_within : (n : ℕ) (o : OttavaRun) (r : RowIs) (rs : List Row) → All (Within n) rs
+run_within : (n : ℕ) (o : Option OttavaRun) (r : RowIs) (rs : List Row) → All (Within n) rs
     → All (Within n) (turn_run lists o r rs)
-run_within n NoRun r rs f = f
-run_within n (Over k kind) r rs f =
-    pick_both (All (Within n)) (under r && same_kind r (Over k kind)) (lists.carry_on k rs) rs
-    (all_change (Within n) (with_ottava_end false) (λ a g. g) rs k f) f
+run_within n None r rs f = f
+run_within n (Some o) r rs f =
+    pick_both (All (Within n)) (under r && same_kind r (Some o)) (lists.carry_on o.row rs) rs
+    (all_change (Within n) (with_ottava_end false) (λ a g. g) rs o.row f) f
 
 -- more members don't disturb the rows before
 row_stays : (q more : List Seen) (r : Row) → Within (length q) r → seen_row (q ++ more) r ≡ seen_row q r

@@ -1,4 +1,5 @@
 -- Where every beat is kept, the fret last shown on a string of tablature is the fret last read on it.
+use Rattle.std.specs.Prelude.{None, Option, Some}
 use Prim.Native.Nat.{ℕ, ◌-◌, ◌<◌}
 use native.Mathlib.Omega.{arith}
 use mathlib.Core.Path.{◌≡◌, refl, sym, ap, subst, ◌∙◌}
@@ -12,8 +13,6 @@ use Rattle.format.specs.Text.{pick}
 use Rattle.model.specs.declared.RowPlace.{RowPlace}
 use Rattle.note.specs.Notes.{string_bit}
 use Rattle.score.specs.declared.Fretboard.{Fretboard}
-use Rattle.score.specs.declared.LastFret.{LastFret}
-use Rattle.score.specs.declared.LastFret.TheVariants.{NoFret, Fret}
 use Rattle.score.specs.Sounding.{sounds}
 use Rattle.score.specs.Members.{Graced, graces}
 use Rattle.refine.proofs.All.{All}
@@ -46,9 +45,9 @@ module _ (tracks : List TrackTold) (b : BeatTold) (earlier : List Event)
   number = board.strings.count - i
 
   -- a note of another string stands elsewhere
-  note_shows : (m : Seen) (f : NoteIn tracks b earlier m) (others : LastFret)
+  note_shows : (m : Seen) (f : NoteIn tracks b earlier m) (others : Option ℕ)
       → shown_at number m.position others
-      ≡ pick (eqb (board.strings.count - f.string) number) (Fret f.fret) others
+      ≡ pick (eqb (board.strings.count - f.string) number) (Some f.fret) others
   note_shows m f others = rw (f.position, tablature)
 
   same_string : (m : Seen) (f : NoteIn tracks b earlier m) → eqb (board.strings.count - f.string) number ≡ true
@@ -58,7 +57,7 @@ module _ (tracks : List TrackTold) (b : BeatTold) (earlier : List Event)
 
   shown_there : (ms : List Seen) → All (NoteIn tracks b earlier) ms
       → (seven : i < 7) (on : sounds board b.beat i ≡ true)
-      → Somewhere (IsString tracks b earlier i seven on) ms → shown_on number ms ≡ Fret (fret_in tracks b earlier i)
+      → Somewhere (IsString tracks b earlier i seven on) ms → shown_on number ms ≡ Some (fret_in tracks b earlier i)
   shown_there [] q seven on w = absurd w
   shown_there (m ∷ ms) q seven on (inl e) =
       rw (ap (λ (y : Seen). y.position) e, tablature, eq-eqb number number refl)
@@ -67,33 +66,33 @@ module _ (tracks : List TrackTold) (b : BeatTold) (earlier : List Event)
       ∙ go (eqb (board.strings.count - q.0.string) number) refl (shown_there ms q.1 seven on w)
     where
       go : (t : Bool) → eqb (board.strings.count - q.0.string) number ≡ t
-          → shown_on number ms ≡ Fret (fret_in tracks b earlier i)
-          → pick t (Fret q.0.fret) (shown_on number ms) ≡ Fret (fret_in tracks b earlier i)
-      go true e h = ap Fret (q.0.last ∙ ap (fret_in tracks b earlier) (same_string m q.0 e))
+          → shown_on number ms ≡ Some (fret_in tracks b earlier i)
+          → pick t (Some q.0.fret) (shown_on number ms) ≡ Some (fret_in tracks b earlier i)
+      go true e h = ap Some (q.0.last ∙ ap (fret_in tracks b earlier) (same_string m q.0 e))
       go false e h = h
 
   shown_none : (ms : List Seen) → All (NoteIn tracks b earlier) ms → sounds board b.beat i ≡ false
-      → shown_on number ms ≡ NoFret
+      → shown_on number ms ≡ None
   shown_none [] q off = refl
   shown_none (m ∷ ms) q off =
       note_shows m q.0 (shown_on number ms)
       ∙ go (eqb (board.strings.count - q.0.string) number) refl (shown_none ms q.1 off)
     where
-      go : (t : Bool) → eqb (board.strings.count - q.0.string) number ≡ t → shown_on number ms ≡ NoFret
-          → pick t (Fret q.0.fret) (shown_on number ms) ≡ NoFret
+      go : (t : Bool) → eqb (board.strings.count - q.0.string) number ≡ t → shown_on number ms ≡ None
+          → pick t (Some q.0.fret) (shown_on number ms) ≡ None
       go true e h =
           let on : sounds board b.beat i ≡ true = rw (same_string m q.0 e) at q.0.sounding in
           absurd (false≢true (sym off ∙ on))
       go false e h = h
 
-  chord_shows : (seven : i < 7) (before : LastFret)
+  chord_shows : (seven : i < 7) (before : Option ℕ)
       → or_earlier (shown_on number (map (seen_note board) (notes_of tracks b earlier))) before
-      ≡ pick (sounds board b.beat i) (Fret (fret_in tracks b earlier i)) before
+      ≡ pick (sounds board b.beat i) (Some (fret_in tracks b earlier i)) before
   chord_shows seven before = go (sounds board b.beat i) refl
     where
       go : (t : Bool) → sounds board b.beat i ≡ t
           → or_earlier (shown_on number (map (seen_note board) (notes_of tracks b earlier))) before
-          ≡ pick t (Fret (fret_in tracks b earlier i)) before
+          ≡ pick t (Some (fret_in tracks b earlier i)) before
       go true e = rw (shown_there _ (notes_in_lem tracks b earlier) seven e (string_somewhere tracks b earlier i seven e))
       go false e = rw (shown_none _ (notes_in_lem tracks b earlier) e)
 
@@ -112,7 +111,7 @@ module _ (tracks : List TrackTold) (track voice i : ℕ) (tablature : (board_in 
 
   module _ (b : BeatTold) (es : List Event) (before : List SeenRow)
       (same : last_shown track voice string before ≡ last_read_in tracks track voice i es) where
-    abbrev last : LastFret
+    abbrev last : Option ℕ
     last = last_read_in tracks track voice i es
 
     -- what is seen on a string of a voice of a track after the beat is what was last read there

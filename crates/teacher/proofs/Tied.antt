@@ -1,4 +1,5 @@
 -- The teacher's theorem: every member that ends a tie has the fret last read on its own string.
+use Rattle.std.specs.Prelude.{Option}
 use Prim.Native.Nat.{ℕ}
 use mathlib.Core.Path.{◌≡◌, refl, sym, ap, ◌∙◌}
 use mathlib.Core.Bool.{Bool, true, false, false≢true}
@@ -8,7 +9,6 @@ use Rattle.format.specs.Text.{pick}
 use Rattle.format.specs.Yields.{Bytes}
 use Rattle.model.specs.declared.RowPlace.{RowPlace}
 use Rattle.score.specs.declared.Fretboard.{Fretboard}
-use Rattle.score.specs.declared.LastFret.{LastFret}
 use Rattle.score.specs.Sounding.{note_at}
 use Rattle.score.specs.Members.{Keyed, Graced, graces}
 use Rattle.score.specs.Page.{keeping}
@@ -70,7 +70,7 @@ module _ (tracks : List TrackTold) where
 
     note_ends : (m : Seen) → NoteIn tracks b es m → TiedIn (plays b ∷ es) above (place_of b) m
     note_ends m f t =
-        let last : LastFret = last_read_in tracks b.track b.voice f.string es in
+        let last : (Option ℕ) = last_read_in tracks b.track b.voice f.string es in
         let tie = sym f.tied ∙ t in
         record {
           beat = b.beat;

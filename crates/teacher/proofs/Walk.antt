@@ -1,5 +1,6 @@
 -- After any events, each voice remembers the frets last read, and the page shows the rows of the kept beats, each tied
 -- note at the fret that was last read on its string.
+use Rattle.std.specs.Prelude.{Option}
 use Prim.Native.Nat.{ℕ, zero, suc, ◌<◌}
 use native.Mathlib.Omega.{arith}
 use mathlib.Core.Path.{◌≡◌, refl, sym, ap, subst, ◌∙◌}
@@ -17,7 +18,6 @@ use Rattle.curve.specs.Key.{grace_key}
 use Rattle.beat.specs.Beat.{BeatIs}
 use Rattle.score.specs.declared.Fretboard.{Fretboard}
 use Rattle.score.specs.declared.Part.{Part}
-use Rattle.score.specs.declared.Remembered.{Remembered}
 use Rattle.score.specs.declared.Voice.{Voice}
 use Rattle.score.specs.Sounding.{Memory, nothing, Sounding, sounding, remember}
 use Rattle.score.specs.Members.{Keyed, in_order, position_of, member_of, Graced, graces, grace_member}
@@ -189,11 +189,11 @@ pub record Walked (tracks : List TrackTold) (es : List Event) (w : Walk Lists) :
 -- the memory law, string by string
 pub remembers_read : (tracks : List TrackTold) (es : List Event) (w : Walk Lists) → Walked tracks es w
     → (track voice string : ℕ) → track < length tracks → voice < 2 → string < 7
-    → (get_or (voice_of voice (get_or w.parts track no_part)).frets string nothing).fret
+    → (get_or (voice_of voice (get_or w.parts track no_part)).frets string nothing)
     ≡ last_read_in tracks track voice string es
 remembers_read tracks es w f track voice string h k seven =
-    ap (λ (m : Memory). (get_or m string nothing).fret) (f.frets track voice h k)
-    ∙ ap (λ (r : Remembered). r.fret) (all_read_at (board_in tracks track).strings.count track voice es string seven)
+    ap (λ (m : Memory). get_or m string nothing) (f.frets track voice h k)
+    ∙ all_read_at (board_in tracks track).strings.count track voice es string seven
 
 pub enter_walked : (tracks : List TrackTold) (es : List Event) (bar : ℕ) (w : Walk Lists) → Walked tracks es w
     → Walked tracks (enters bar ∷ es) (enter_bar lists bar w)

@@ -1,5 +1,5 @@
 -- Which fret a member that ends a tie must have, by what was read, and what an engraver sees of it on the page.
-use Rattle.std.specs.Prelude.{ℕ, ◌+◌, ◌<◌, ◌≡◌, Bool, true, false, ◌&&◌, List, [], ◌∷◌, ◌++◌, map, reverse, eqb, length, get_or, take, drop}
+use Rattle.std.specs.Prelude.{ℕ, ◌+◌, ◌<◌, ◌≡◌, Bool, true, false, ◌&&◌, List, [], ◌∷◌, ◌++◌, map, reverse, eqb, length, get_or, take, drop, None, Option, Some}
 use Rattle.format.specs.Prog.{ok, run}
 use Rattle.format.specs.Text.{pick}
 use Rattle.model.specs.declared.Member.{Member}
@@ -9,14 +9,11 @@ use Rattle.model.specs.declared.RowKind.{RowKind}
 use Rattle.model.specs.declared.RowKind.TheVariants.{Grace, Beat}
 use Rattle.model.specs.declared.Span.{Span}
 use Rattle.model.specs.declared.TabPosition.{TabPosition}
-use Rattle.model.specs.declared.TabPosition.TheVariants.{OffTablature, Fretted}
 use Rattle.curve.specs.Key.{note_key}
 use Rattle.track.specs.Track.{no_track}
 use Rattle.note.specs.declared.NoteRead.{NoteRead}
 use Rattle.beat.specs.Beat.{BeatIs}
 use Rattle.score.specs.declared.Fretboard.{Fretboard}
-use Rattle.score.specs.declared.LastFret.{LastFret}
-use Rattle.score.specs.declared.LastFret.TheVariants.{NoFret, Fret}
 use Rattle.score.specs.Sounding.{fret_of, sounds_on, sounds, note_at}
 use Rattle.score.specs.Members.{position_of}
 use Rattle.score.specs.Page.{board_of}
@@ -38,18 +35,18 @@ plays_on strings track voice string b = of_voice track voice b && sounds_on stri
 -- of what was read before, the latest first: the fret of the last beat of this voice of this track in which this
 -- string sounds. A tied note there had taken the fret last read before it. Nothing else is looked at: no other string,
 -- voice or track, no bar line, and not whether a beat is kept
-abbrev pub last_read : (strings track voice string : ℕ) → List Event → LastFret
-last_read strings track voice string [] = NoFret
+abbrev pub last_read : (strings track voice string : ℕ) → List Event → Option ℕ
+last_read strings track voice string [] = None
 last_read strings track voice string (enters bar ∷ earlier) = last_read strings track voice string earlier
 last_read strings track voice string (plays b ∷ earlier) =
     pick (plays_on strings track voice string b)
-    (Fret (fret_of (last_read strings track voice string earlier) (note_at b.beat string).read))
+    (Some (fret_of (last_read strings track voice string earlier) (note_at b.beat string).read))
     (last_read strings track voice string earlier)
 
 -- the fret last read, or the note's own where there is none
-abbrev pub or_own : LastFret → (own : ℕ) → ℕ
-or_own NoFret own = own
-or_own (Fret f) own = f
+abbrev pub or_own : Option ℕ → (own : ℕ) → ℕ
+or_own None own = own
+or_own (Some f) own = f
 
 -- the notes read on one string of a voice of a track, the latest first
 abbrev pub notes_on : (strings track voice string : ℕ) → List Event → List NoteRead
@@ -65,7 +62,7 @@ notes_on strings track voice string (plays b ∷ earlier) =
 -- what an engraver sees of a member: its key, its string and fret on tablature, and whether it ends a tie
 pub record Seen : Type 0 where
   pub key : ℕ
-  pub position : TabPosition
+  pub position : Option TabPosition
   pub tied : Bool
 
 -- a member as it is seen
@@ -117,7 +114,7 @@ abbrev pub board_in : List TrackTold → (track : ℕ) → Fretboard
 board_in tracks track = board_of (get_or tracks track no_track_told).track
 
 -- the fret last read on a string, by the strings that its track has
-abbrev pub last_read_in : List TrackTold → (track voice string : ℕ) → List Event → LastFret
+abbrev pub last_read_in : List TrackTold → (track voice string : ℕ) → List Event → Option ℕ
 last_read_in tracks track voice string earlier = last_read (board_in tracks track).strings.count track voice string earlier
 
 -- the key of a string at a fret
@@ -200,13 +197,13 @@ pub record TiesTold (s : List ℕ) (x : Score) (n : ℕ) : Type 0 where
 -- ---- the same on the page, as an engraver sees it: over the finished tables alone
 
 -- the fret that members show on a string, by the string's number on the page
-abbrev pub shown_at : (string : ℕ) → TabPosition → LastFret → LastFret
-shown_at string OffTablature others = others
-shown_at string (Fretted s f) others = pick (eqb s string) (Fret f) others
+abbrev pub shown_at : (string : ℕ) → Option TabPosition → Option ℕ → Option ℕ
+shown_at string None others = others
+shown_at string (Some at) others = pick (eqb at.string string) (Some at.fret) others
 
 -- of all members of a row
-abbrev pub shown_on : (string : ℕ) → List Seen → LastFret
-shown_on string [] = NoFret
+abbrev pub shown_on : (string : ℕ) → List Seen → Option ℕ
+shown_on string [] = None
 shown_on string (m ∷ ms) = shown_at string m.position (shown_on string ms)
 
 -- a row of a beat of this voice of this track
@@ -214,14 +211,14 @@ abbrev pub row_of : (track voice : ℕ) → SeenRow → Bool
 row_of track voice r = no_grace r.kind && (eqb r.place.track track && eqb r.place.voice voice)
 
 -- what a row shows, or what was shown before it
-abbrev pub or_earlier : LastFret → LastFret → LastFret
-or_earlier NoFret earlier = earlier
-or_earlier (Fret f) earlier = Fret f
+abbrev pub or_earlier : Option ℕ → Option ℕ → Option ℕ
+or_earlier None earlier = earlier
+or_earlier (Some f) earlier = Some f
 
 -- going back over the rows, the latest first: the fret on this string in the last row of a beat of this voice of this
 -- track that has a member on it
-abbrev pub last_shown : (track voice string : ℕ) → List SeenRow → LastFret
-last_shown track voice string [] = NoFret
+abbrev pub last_shown : (track voice string : ℕ) → List SeenRow → Option ℕ
+last_shown track voice string [] = None
 last_shown track voice string (r ∷ before) =
     pick (row_of track voice r)
     (or_earlier (shown_on string r.members) (last_shown track voice string before))
@@ -237,16 +234,16 @@ abbrev pub AllKept : (s : List ℕ) (n : ℕ) → Type 0
 AllKept s n = (file : Told) → run told s 0 ≡ ok file n → All KeptBeat file.bars.events
 
 -- the fret is the one last shown, where one was
-abbrev pub SameFret : (fret : ℕ) → LastFret → Type 0
-SameFret fret NoFret = Unit {0}
-SameFret fret (Fret f) = fret ≡ f
+abbrev pub SameFret : (fret : ℕ) → Option ℕ → Type 0
+SameFret fret None = Unit {0}
+SameFret fret (Some f) = fret ≡ f
 
 -- what an engraver can check on the page: a member on tablature that ends a tie has the fret last shown on its string,
 -- in the rows before its own of the same voice of the same track, where one of them shows a fret there
 pub record TiesShown (x : Score) : Type 0 where
   pub ties : (k j : ℕ) (none : Row) → k < length x.bars.rows → j < (row_at x k none).members.count
       → (member_at x (row_at x k none) j).ties.end ≡ true
-      → (string fret : ℕ) → (member_at x (row_at x k none) j).position ≡ Fretted string fret
+      → (string fret : ℕ) → (member_at x (row_at x k none) j).position ≡ Some (record { string = string; fret = fret })
       → SameFret fret
       (last_shown (row_at x k none).place.track (row_at x k none).place.voice string
       (reverse (take k (page x.bars.rows x.bars.members))))

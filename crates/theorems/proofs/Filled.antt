@@ -1,4 +1,5 @@
 -- The tables after a file was read: what stands past their entries, and what is handed out of these.
+use Rattle.std.specs.Prelude.{Some}
 use Prim.Native.Nat.{ℕ, ◌*◌, ◌/◌, ◌≤◌, ◌<◌}
 use native.Mathlib.Omega.{arith}
 use native.Mathlib.Nat.{le-div_iff_mul-le}
@@ -16,12 +17,6 @@ use Rattle.model.specs.declared.Point.{Point}
 use Rattle.model.specs.declared.Row.{Row}
 use Rattle.model.specs.declared.Sizes.{Sizes}
 use Rattle.model.specs.declared.Track.{Track}
-use Rattle.entries.specs.declared.BarAt.TheVariants.{ThisBar}
-use Rattle.entries.specs.declared.TrackAt.TheVariants.{ThisTrack}
-use Rattle.entries.specs.declared.RowAt.TheVariants.{ThisRow}
-use Rattle.entries.specs.declared.MemberAt.TheVariants.{ThisMember}
-use Rattle.entries.specs.declared.PointAt.TheVariants.{ThisPoint}
-use Rattle.entries.specs.declared.TextAt.TheVariants.{ThisText}
 use Rattle.entries.proofs.Fits.{BarFits, TrackFits, RowFits, MemberFits, PointFits}
 use Rattle.entries.specs.Words.{bar_stride, bar_words, bar_at, track_stride, track_words, track_at}
 use Rattle.entries.specs.Words.{row_stride, row_words, row_at, member_stride, member_words, member_at}
@@ -65,17 +60,17 @@ filled_past t x =
 
 pub record HandedOut (x : Score) (t : Tables) : Type 0 where
   pub bars : (i : ℕ) (none : Bar) → i < length x.bars.bars
-      → bar_at t.bars i ≡ ThisBar (get_or x.bars.bars i none)
+      → bar_at t.bars i ≡ Some (get_or x.bars.bars i none)
   pub tracks : (i : ℕ) (none : Track) → i < length x.tracks.tracks
-      → track_at t.tracks i ≡ ThisTrack (get_or x.tracks.tracks i none)
+      → track_at t.tracks i ≡ Some (get_or x.tracks.tracks i none)
   pub rows : (i : ℕ) (none : Row) → i < length x.bars.rows
-      → row_at t.rows i ≡ ThisRow (get_or x.bars.rows i none)
+      → row_at t.rows i ≡ Some (get_or x.bars.rows i none)
   pub members : (i : ℕ) (none : Member) → i < length x.bars.members
-      → member_at t.members i ≡ ThisMember (get_or x.bars.members i none)
+      → member_at t.members i ≡ Some (get_or x.bars.members i none)
   pub points : (i : ℕ) (none : Point) → i < length x.bars.points
-      → point_at t.points i ≡ ThisPoint (get_or x.bars.points i none)
+      → point_at t.points i ≡ Some (get_or x.bars.points i none)
   pub texts : (i : ℕ) (none : TextIs) → i < length x.bars.texts
-      → text_at t.texts i ≡ ThisText (text_entry (get_or x.bars.texts i none))
+      → text_at t.texts i ≡ Some (text_entry (get_or x.bars.texts i none))
 
 text_words_lem : (es : List TextIs) → words (λ e. text_words (text_entry e)) es ≡ words text_words (map text_entry es)
 text_words_lem [] = refl
@@ -84,7 +79,7 @@ text_words_lem (e ∷ es) = rw (text_words_lem es)
 -- through the entries as they are handed out, without their bytes
 text_handed : (t : List ℕ) (es : List TextIs) (i : ℕ) (none : TextIs) → length es * text_stride ≤ length t
     → i < length es → TextFit (get_or es i none)
-    → text_at (over t (words (λ e. text_words (text_entry e)) es)) i ≡ ThisText (text_entry (get_or es i none))
+    → text_at (over t (words (λ e. text_words (text_entry e)) es)) i ≡ Some (text_entry (get_or es i none))
 text_handed t es i none r h f =
     let n : length (map text_entry es) ≡ length es = length-map es text_entry in
     let g : get_or (map text_entry es) i (text_entry none) ≡ text_entry (get_or es i none) =

@@ -1,4 +1,5 @@
 -- Words hold every entry of a score that a file of bytes gives.
+use Rattle.std.specs.Prelude.{None, Some}
 use Prim.Native.Nat.{ℕ, ◌-◌, ◌≤◌, ◌<◌}
 use native.Mathlib.Omega.{arith}
 use mathlib.Core.Path.{◌≡◌, refl, sym, ap, ◌∙◌}
@@ -16,9 +17,7 @@ use Rattle.format.proofs.Fits.{reads}
 use Rattle.format.proofs.Verdict.{upto_bytes}
 use Rattle.format.proofs.Yields.{yield_ret, yield_bind, yield_after, yield_turns}
 use Rattle.model.specs.declared.Bar.{Bar}
-use Rattle.model.specs.declared.Program.TheVariants.{NoProgram}
 use Rattle.model.specs.declared.Time.{Time}
-use Rattle.model.specs.declared.Tuplet.TheVariants.{NoTuplet, Ratio}
 use Rattle.model.proofs.Fits.{ProgramFits, TupletFits}
 use Rattle.entries.proofs.Fits.{BarFits, TrackFits}
 use Rattle.header.specs.declared.Header.{Header}
@@ -87,7 +86,7 @@ program_fits : (percussion : Bool) (programs : List (List ℕ)) (port channel : 
     → ProgramFits (T.channel_program percussion programs port channel)
 unfolding T.channel_program
 program_fits percussion programs port channel f =
-    pick_both ProgramFits percussion NoProgram _ tt
+    pick_both ProgramFits percussion None _ tt
     (all_get_d Byte (get_or programs port []) channel 0 (all_get_d (All Byte) programs port [] f tt) (omega arith))
 
 sound_facts : {s : List ℕ} {at : ℕ} → Yields s T.sound at (λ w _. w.channel < 256)
@@ -132,7 +131,7 @@ unfolding tuplet_of
 tuplet_fits n = go (eqb n 3) (leb 5 n) (leb n 7) (leb 9 n) (leb n 13) refl refl refl refl
   where
     go : (a b c d e : Bool) → leb 5 n ≡ b → leb n 7 ≡ c → leb 9 n ≡ d → leb n 13 ≡ e
-        → TupletFits (pick a (Ratio 3 2) (pick (b && c) (Ratio n 4) (pick (d && e) (Ratio n 8) NoTuplet)))
+        → TupletFits (pick a (Some (record { actual = 3; normal = 2 })) (pick (b && c) (Some (record { actual = n; normal = 4 })) (pick (d && e) (Some (record { actual = n; normal = 8 })) None)))
     go true b c d e i j k l = omega arith
     go false true true d e i j k l = omega (arith, leb-true 5 n i, leb-true n 7 j)
     go false true false true true i j k l = omega (arith, leb-true 9 n k, leb-true n 13 l)

@@ -1,4 +1,5 @@
 -- Words hold every point of a curve that a reading gives, and its height.
+use Rattle.std.specs.Prelude.{None, Option, Some}
 use Prim.Native.Nat.{ℕ, ◌≤◌}
 use native.Mathlib.Omega.{arith}
 use mathlib.Core.Path.{◌≡◌, refl}
@@ -15,8 +16,6 @@ use Rattle.model.specs.declared.Cents.{Cents}
 use Rattle.model.specs.declared.Point.{Point}
 use Rattle.model.proofs.Fits.{HeightFits}
 use Rattle.entries.proofs.Fits.{PointFits}
-use Rattle.model.specs.declared.Height.{Height}
-use Rattle.model.specs.declared.Height.TheVariants.{NoHeight, Peak}
 use Rattle.curve.specs.Held.{held, word_half}
 use Rattle.curve.specs.Bend.{point, place, held_z, height_of, point_of, insert, inserts, along, latter, with_ends, finish}
 use Rattle.curve.specs.Bend.{size, larger, curve_height}
@@ -97,11 +96,11 @@ curve_fits ps = ends_fit (inserts [] (map read_of ps)) (inserts_fit [] (map read
 
 -- ---- its height
 
-larger_fits : (h : Height) (c : Cents) → HeightFits h → CentsFit c → HeightFits (larger h c)
+larger_fits : (h : Option Cents) (c : Cents) → HeightFits h → CentsFit c → HeightFits (larger h c)
 unfolding larger
-larger_fits NoHeight c f g = g
-larger_fits (Peak d) c f g = either HeightFits (leb (size d) (size c)) (Peak c) (Peak d) g f
+larger_fits None c f g = g
+larger_fits (Some d) c f g = either HeightFits (leb (size d) (size c)) (Some c) (Some d) g f
 
 pub height_fits : (ps : List Point) → All PointFits ps → HeightFits (curve_height ps)
 unfolding curve_height
-height_fits ps f = along_fits HeightFits larger larger_fits NoHeight ps tt f
+height_fits ps f = along_fits HeightFits larger larger_fits None ps tt f

@@ -1,4 +1,5 @@
 -- Words hold the rows that a beat gives, their members and their points.
+use Rattle.std.specs.Prelude.{None, Option, Some}
 use Prim.Native.Nat.{ℕ, ◌-◌, ◌≤◌, ◌<◌}
 use native.Mathlib.Omega.{arith}
 use mathlib.Core.Bool.{Bool, ◌&&◌}
@@ -9,18 +10,13 @@ use Rattle.model.specs.declared.OttavaMarks.{OttavaMarks}
 use Rattle.model.specs.declared.RowPlace.{RowPlace}
 use Rattle.model.specs.declared.Row.{Row}
 use Rattle.model.specs.declared.Span.{Span}
-use Rattle.model.specs.declared.TabPosition.TheVariants.{OffTablature, Fretted}
 use Rattle.model.proofs.Fits.{TupletFits, PositionFits}
 use Rattle.entries.proofs.Fits.{RangeFits, RowFits, MemberFits, PointFits}
-use Rattle.note.specs.declared.marks.GraceNote.{GraceNote}
-use Rattle.note.specs.declared.marks.GraceNote.TheVariants.{NoGrace, Before}
 use Rattle.beat.specs.Beat.{BeatIs}
 use Rattle.score.specs.declared.Fretboard.{Fretboard}
 use Rattle.score.specs.declared.Hammer.{Hammer}
-use Rattle.score.specs.declared.Hammer.TheVariants.{NoHammer, Waits}
 use Rattle.score.specs.declared.KeptCounts.{KeptCounts}
 use Rattle.score.specs.declared.OttavaRun.{OttavaRun}
-use Rattle.score.specs.declared.OttavaRun.TheVariants.{NoRun, Over}
 use Rattle.score.proofs.Facts.{GraceFits, marks_few}
 use Rattle.score.specs.Members.{Keyed, position_of, member_of, Graced, graced_after, graces, grace_member}
 use Rattle.score.specs.Rows.{RowIs, played, no_play, rest_row, chord_row}
@@ -35,6 +31,7 @@ use Rattle.refine.proofs.Keeps.{pull_off_fits, carry_on_fits, start_tie_fits}
 use Rattle.refine.proofs.Parts.{HammerFits, VoiceFits, BoardFits}
 use Rattle.refine.proofs.Shown.{pick_both, add_all_is}
 use Rattle.theorems.proofs.FitPoints.{curve_fits, height_fits}
+use Rattle.note.specs.declared.marks.Grace.{Grace}
 
 pub record RowHeld (r : RowIs) : Type 0 where
   pub tuplet : TupletFits r.value.tuplet
@@ -50,7 +47,7 @@ module _ (board : Fretboard) (fits : BoardFits board) (flat : Bool) (room : ℕ)
   position_fits : (string fret : ℕ) → string < board.strings.count → fret < 256
       → PositionFits (position_of board string fret)
   position_fits string fret h k =
-      pick_both PositionFits board.tablature (Fretted (board.strings.count - string) fret) OffTablature
+      pick_both PositionFits board.tablature (Some (record { string = board.strings.count - string; fret = fret })) None
       (omega (arith, fits.count)) tt
 
   members_fit : (xs : List Keyed) → All (KeyedFits board room) xs → All MemberFits (map (member_of board flat) xs)
@@ -72,9 +69,9 @@ module _ (board : Fretboard) (fits : BoardFits board) (flat : Bool) (room : ℕ)
   graces_fit [] q = tt
   graces_fit (x ∷ xs) q = go x.sound.note.read.effects.grace q.0.sound.note.grace (graces_fit xs q.1)
     where
-      go : (g : GraceNote) → GraceFits g → All GracedFits (graces xs) → All GracedFits (graced_after g x (graces xs))
-      go NoGrace f h = h
-      go (Before g) f h = (record { string = q.0.sound.string; fret = f }, h)
+      go : (g : Option Grace) → GraceFits g → All GracedFits (graces xs) → All GracedFits (graced_after g x (graces xs))
+      go None f h = h
+      go (Some g) f h = (record { string = q.0.sound.string; fret = f }, h)
 
   grace_members_fit : (gs : List Graced) → All GracedFits gs → All MemberFits (map (grace_member board flat) gs)
   unfolding grace_member
@@ -139,15 +136,15 @@ unfolding row_entry
 entry_fits r marks kept f =
     record { tuplet = f.tuplet; height = height_fits r.curve f.curve; count = f.count; chord = f.chord; beat = f.beat }
 
-hammer_keeps : (h : Hammer) (r : RowIs) (rs : List Row) → All RowFits rs → All RowFits (turn_hammer lists h r rs)
-hammer_keeps NoHammer r rs f = f
-hammer_keeps (Waits n key) r rs f =
-    pick_both (All RowFits) (pulls r key) (lists.pull_off n rs) rs (pull_off_fits n rs f) f
+hammer_keeps : (h : Option Hammer) (r : RowIs) (rs : List Row) → All RowFits rs → All RowFits (turn_hammer lists h r rs)
+hammer_keeps None r rs f = f
+hammer_keeps (Some w) r rs f =
+    pick_both (All RowFits) (pulls r w.key) (lists.pull_off w.row rs) rs (pull_off_fits w.row rs f) f
 
-run_keeps : (o : OttavaRun) (r : RowIs) (rs : List Row) → All RowFits rs → All RowFits (turn_run lists o r rs)
-run_keeps NoRun r rs f = f
-run_keeps (Over n kind) r rs f =
-    pick_both (All RowFits) (under r && same_kind r (Over n kind)) (lists.carry_on n rs) rs (carry_on_fits n rs f) f
+run_keeps : (o : Option OttavaRun) (r : RowIs) (rs : List Row) → All RowFits rs → All RowFits (turn_run lists o r rs)
+run_keeps None r rs f = f
+run_keeps (Some o) r rs f =
+    pick_both (All RowFits) (under r && same_kind r (Some o)) (lists.carry_on o.row rs) rs (carry_on_fits o.row rs f) f
 
 ties_keep : (last : Span) (tied ms : List Member) → All MemberFits ms → All MemberFits (start_ties lists last tied ms)
 ties_keep last [] ms f = f
@@ -161,7 +158,7 @@ first_key_lem (m ∷ ms) f = f.0.key
 
 hammer_fits : (n : ℕ) (r : RowIs) → RowHeld r → HammerFits (hammer_after n r)
 hammer_fits n r f =
-    pick_both HammerFits (marked r.text) (Waits n (first_key r.members)) NoHammer
+    pick_both HammerFits (marked r.text) (Some (record { row = n; key = first_key r.members })) None
     (first_key_lem r.members f.members) tt
 
 fingered_fit : (ms : List Member) → All MemberFits ms → All MemberFits (fingered ms)

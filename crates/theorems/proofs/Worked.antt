@@ -1,5 +1,6 @@
 -- The worked examples of document 01, "How much each promise says", as a single table under a single theorem; and two more of its
 -- sentences on versions. All by computation.
+use Rattle.std.specs.Prelude.{Some}
 use Prim.Native.Nat.{ℕ, ◌-◌}
 use mathlib.Core.Path.{◌≡◌, refl}
 use mathlib.Core.List.{List, [], ◌∷◌, ◌++◌}
@@ -13,7 +14,6 @@ use Rattle.song.specs.Version.{PREFIX, starts, is_digit, digits_len, digits_from
 use Rattle.header.specs.Header.{common_time, power_of_two, time_of, ending_of, passes_of}
 use Rattle.curve.specs.Held.{held}
 use Rattle.curve.specs.Bend.{point, place, point_of, finish, larger, curve_height}
-use Rattle.model.specs.declared.Height.TheVariants.{Peak}
 
 -- a version by its text after "FICHIER GUITAR PRO v"
 abbrev read : List ℕ → Prog ℕ
@@ -45,7 +45,7 @@ pub record Worked : Type 0 where
   -- offset 59 as 983
   pub offset_59 : (value : ℕ) → place (point_of 59 value) ≡ 983
   -- heights -100 then 100 giving 100
-  pub heights_100 : curve_height (finish (point 0 (down 100) ∷ point 1000 (up 100) ∷ [])) ≡ Peak (up 100)
+  pub heights_100 : curve_height (finish (point 0 (down 100) ∷ point 1000 (up 100) ∷ [])) ≡ Some (up 100)
 
 pub worked : Worked
 unfolding starts is_digit digits_len digits_from short unplussed version_number version_of accepted when_le time_of power_of_two ending_of passes_of ones ones_in count_trailing_zeros run text_bytes text_of cut trim range_of blank cut_len lead_len keep_len keep_next held point_of finish curve_height larger

@@ -1,11 +1,9 @@
 -- Tracks.
-use Rattle.std.specs.Prelude.{ℕ, ◌-◌, ◌*◌, min, List, [], Bool, false, not, ◌&&◌, ◌||◌, get_or, replicate, set, ltb, eqb}
+use Rattle.std.specs.Prelude.{ℕ, ◌-◌, ◌*◌, min, List, [], Bool, false, not, ◌&&◌, ◌||◌, get_or, replicate, set, ltb, eqb, None, Option, Some}
 use Rattle.format.specs.declared.Range.{Range}
 use Rattle.format.specs.declared.Counted.TheVariants as C
 use Rattle.model.specs.declared.Clef.{Clef}
 use Rattle.model.specs.declared.Clef.TheVariants.{Treble, Bass, Percussion}
-use Rattle.model.specs.declared.Program.{Program}
-use Rattle.model.specs.declared.Program.TheVariants.{NoProgram, Midi}
 use Rattle.format.specs.Text.{pick}
 use Rattle.format.specs.Prog.{Prog, ret, bind, when_le, turns, has}
 use Rattle.format.specs.Fields.{u8, u32, less_one, skip, count, fixed_string, int_byte_string_past}
@@ -82,8 +80,8 @@ unfoldable pub clef_of : Bool → Strings → ℕ → Clef
 clef_of percussion s field = pick percussion Percussion (pick (low s || eqb field 12) Bass Treble)
 
 -- the program of the track's port and channel, absent for percussion
-unfoldable pub channel_program : Bool → List (List ℕ) → ℕ → ℕ → Program
-channel_program percussion programs port channel = pick percussion NoProgram (Midi (get_or (get_or programs port []) channel 0))
+unfoldable pub channel_program : Bool → List (List ℕ) → ℕ → ℕ → Option ℕ
+channel_program percussion programs port channel = pick percussion None (Some (get_or (get_or programs port []) channel 0))
 
 -- ---- a whole track
 -- beside a stop
@@ -97,7 +95,7 @@ no_track =
       tablature = false;
       clef = Treble;
       channel = 0;
-      program = NoProgram;
+      program = None;
     }
 
 -- what a track's fields make; percussion is flag 0x01

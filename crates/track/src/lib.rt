@@ -1,34 +1,22 @@
 // Tracks.
 #![tactic(auto)]
 
-ghost use Rattle.std.specs.Prelude.{◌≡◌, ◌≤◌};
-ghost use Rattle.format.specs.Place.{Gives, Reaches};
+ghost use Rattle.std.specs.Prelude.{◌≡◌, ◌≤◌, Ok, IfOk};
+ghost use Rattle.format.specs.Place.{Reaches, Reads, ReadsAs};
 ghost use Rattle.track.specs.Track as track;
 
 use bin::skip_at;
 use bin::string::int_byte_string_past;
 use curve::held::{capo_of, tuning_of};
-use format::{Counted, NO_RANGE, Place, Range};
+use format::{Counted, Place, Range, Reading};
 use header::has;
-use model::{Clef, Program};
+use model::Clef;
 
 // A track's strings: how many, and the keys of the open ones in the file's order, 0 past the last.
-#[derive(Clone, Copy)]
+#[derive(Clone, Copy, PartialEq, Eq)]
 pub struct Strings {
     pub count: u8,
     pub tunings: [u8; 7],
-}
-
-#[derive(Clone, Copy)]
-struct TuningsRead {
-    tunings: [u8; 7],
-    next: Place,
-}
-
-#[derive(Clone, Copy)]
-struct StringsRead {
-    strings: Strings,
-    next: Place,
 }
 
 // Where a track's program stands in the channel table, and its capo.
@@ -39,23 +27,11 @@ pub struct Sound {
     pub capo: u8,
 }
 
-#[derive(Clone, Copy)]
-struct SoundRead {
-    sound: Sound,
-    next: Place,
-}
-
 // What a track says of its staff from v500 on.
 #[derive(Clone, Copy)]
 pub struct Staff {
     pub flags: u8,
     pub clef: u32,
-}
-
-#[derive(Clone, Copy)]
-struct StaffRead {
-    staff: Staff,
-    next: Place,
 }
 
 #[derive(Clone, Copy)]
@@ -67,54 +43,36 @@ pub struct TrackHeader {
     pub tablature: bool,
     pub clef: Clef,
     pub channel: u8,
-    pub program: Program,
-}
-
-#[derive(Clone, Copy)]
-pub struct TrackRead {
-    pub track: TrackHeader,
-    pub next: Place,
+    pub program: Option<u8>,
 }
 
 // The keys of the first n strings.
-fn tunings_at(s: &[u8], from: Place, n: usize) -> TuningsRead
+fn tunings_at(s: &[u8], from: usize, n: usize) -> Reading<[u8; 7]>
     requires { n ≤ 7 }
-    ensures { Reaches (track.tunings n) s.now from result.tunings result.next }
+    ensures { Reads (track.tunings n) s.now (Ok from) result }
 {
     let mut keys = [0u8; 7];
     let mut at = from;
     let mut i = 0;
     while i < n {
-        let word = bin::u32_at(s, at);
-        keys[i] = tuning_of(word.value);
-        at = word.next;
+        let (word, next) = bin::u32_at(s, Ok(at))?;
+        keys[i] = tuning_of(word);
+        at = next;
         i += 1;
     }
-    TuningsRead {
-        tunings: keys,
-        next: at,
-    }
+    Ok((keys, at))
 }
 
 // The tunings past the string count are passed over.
-fn strings_at(s: &[u8], from: Place) -> StringsRead
-    ensures reaches { Reaches track.strings s.now from result.strings result.next }
-    ensures count_bound { result.strings.count ≤ 7 }
+fn strings_at(s: &[u8], at: usize) -> Reading<Strings>
+    ensures reads { Reads track.strings s.now (Ok at) result }
+    ensures count_bound { IfOk result (λ r. r.0.count ≤ 7) }
 {
-    let count = bin::count_at(s, from, Counted::Strings);
-    let n = count.value;
-    let at = count.next;
-    let read = tunings_at(s, at, n as usize);
-    let at = read.next;
-    let next = skip_at(s, at, 4 * (7 - (n as usize)));
-    let tunings = read.tunings;
-    StringsRead {
-        strings: Strings {
-            count: n as u8,
-            tunings,
-        },
-        next,
-    }
+    let (n, at) = bin::count_at(s, Ok(at), Counted::Strings)?;
+    let (tunings, at) = tunings_at(s, at, n as usize)?;
+    let at = skip_at(s, Ok(at), 4 * (7 - (n as usize)))?;
+    let count = n as u8;
+    Ok((Strings { count, tunings }, at))
 }
 
 // A number less one, held to 0..last.
@@ -128,25 +86,20 @@ fn numbered(last: u8, v: u32) -> u8
     last
 }
 
-fn sound_at(s: &[u8], from: Place) -> SoundRead
-    ensures reaches { Reaches track.sound s.now from result.sound result.next }
-    ensures port_bound { (result.sound.port ≤ 3) × (result.sound.channel ≤ 15) }
+fn sound_at(s: &[u8], at: usize) -> Reading<Sound>
+    ensures reads { Reads track.sound s.now (Ok at) result }
+    ensures port_bound { IfOk result (λ r. (r.0.port ≤ 3) × (r.0.channel ≤ 15)) }
 {
-    let port = bin::u32_at(s, from);
-    let at = port.next;
-    let channel = bin::u32_at(s, at);
-    let at = channel.next;
-    let capo = bin::u32_at(s, skip_at(s, at, 8));
-    let at = capo.next;
-    let next = skip_at(s, at, 4);
-    SoundRead {
-        sound: Sound {
-            port: numbered(3, port.value),
-            channel: numbered(15, channel.value),
-            capo: capo_of(capo.value),
-        },
-        next,
-    }
+    let (port, at) = bin::u32_at(s, Ok(at))?;
+    let (channel, at) = bin::u32_at(s, Ok(at))?;
+    let (capo, at) = bin::u32_at(s, skip_at(s, Ok(at), 8))?;
+    let at = skip_at(s, Ok(at), 4)?;
+    let sound = Sound {
+        port: numbered(3, port),
+        channel: numbered(15, channel),
+        capo: capo_of(capo),
+    };
+    Ok((sound, at))
 }
 
 fn effect_at(s: &[u8], from: Place, v: u32) -> Place
@@ -160,27 +113,16 @@ fn effect_at(s: &[u8], from: Place, v: u32) -> Place
 }
 
 // Before v500 the staff is as if its flag 0x01 were set and its clef field 0.
-fn staff_at(s: &[u8], from: Place, v: u32) -> StaffRead
-    ensures { Reaches (track.staff v) s.now from result.staff result.next }
+fn staff_at(s: &[u8], at: usize, v: u32) -> Reading<Staff>
+    ensures { Reads (track.staff v) s.now (Ok at) result }
 {
     if v < 500 {
-        return StaffRead {
-            staff: Staff { flags: 1, clef: 0 },
-            next: from,
-        };
+        return Ok((Staff { flags: 1, clef: 0 }, at));
     }
-    let flags = bin::u8_at(s, from);
-    let at = flags.next;
-    let clef = bin::u32_at(s, skip_at(s, at, 4));
-    let at = clef.next;
-    let next = effect_at(s, skip_at(s, at, 36), v);
-    StaffRead {
-        staff: Staff {
-            flags: flags.value,
-            clef: clef.value,
-        },
-        next,
-    }
+    let (flags, at) = bin::u8_at(s, Ok(at))?;
+    let (clef, at) = bin::u32_at(s, skip_at(s, Ok(at), 4))?;
+    let at = effect_at(s, skip_at(s, Ok(at), 36), v)?;
+    Ok((Staff { flags, clef }, at))
 }
 
 fn tablature_of(percussion: bool, strings: u8, flags: u8) -> bool
@@ -225,14 +167,14 @@ fn clef_of(percussion: bool, strings: Strings, field: u32) -> Clef
 }
 
 // The program of the port and channel, absent for percussion.
-fn program_of(percussion: bool, programs: [[u8; 16]; 4], port: usize, channel: usize) -> Program
+fn program_of(percussion: bool, programs: [[u8; 16]; 4], port: usize, channel: usize) -> Option<u8>
     requires { (port ≤ 3) × (channel ≤ 15) }
     ensures { result ≡ track.channel_program percussion programs port channel }
 {
     if percussion {
-        return Program::NoProgram;
+        return None;
     }
-    Program::Midi(programs[port][channel])
+    Some(programs[port][channel])
 }
 
 fn track_of(
@@ -264,53 +206,14 @@ fn track_of(
     }
 }
 
-fn no_track() -> TrackHeader
-    ensures { result ≡ track.no_track }
-{
-    TrackHeader {
-        name: NO_RANGE,
-        strings: Strings {
-            count: 0,
-            tunings: [0u8; 7],
-        },
-        capo: 0,
-        percussion: false,
-        tablature: false,
-        clef: Clef::Treble,
-        channel: 0,
-        program: Program::NoProgram,
-    }
-}
-
 // A track, with the program that the channel table has for it.
-pub fn track_at(s: &[u8], from: Place, v: u32, programs: [[u8; 16]; 4]) -> TrackRead
-    ensures { Gives (track.track v programs) track.no_track s.now from result.track result.next }
+pub fn track_at(s: &[u8], from: Place, v: u32, programs: [[u8; 16]; 4]) -> Reading<TrackHeader>
+    ensures { Reads (track.track v programs) s.now from result }
 {
-    let flags = bin::u8_at(s, from);
-    let at = flags.next;
-    let name = bin::string::fixed_string(s, at, 40);
-    let at = name.next;
-    let strings = strings_at(s, at);
-    let at = strings.next;
-    let sound = sound_at(s, at);
-    let at = sound.next;
-    let staff = staff_at(s, at, v);
-    let next = staff.next;
-    let Place::At(_) = next else {
-        return TrackRead {
-            track: no_track(),
-            next,
-        };
-    };
-    TrackRead {
-        track: track_of(
-            programs,
-            flags.value,
-            name.range,
-            strings.strings,
-            sound.sound,
-            staff.staff,
-        ),
-        next,
-    }
+    let (flags, at) = bin::u8_at(s, from)?;
+    let (name, at) = bin::string::fixed_string(s, Ok(at), 40)?;
+    let (strings, at) = strings_at(s, at)?;
+    let (sound, at) = sound_at(s, at)?;
+    let (staff, at) = staff_at(s, at, v)?;
+    Ok((track_of(programs, flags, name, strings, sound, staff), at))
 }

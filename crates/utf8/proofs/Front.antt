@@ -5,7 +5,7 @@ use native.Mathlib.Decide.{dec_lt}
 use mathlib.Core.Path.{◌≡◌, refl, ap, sym, ◌∙◌}
 use mathlib.Core.List.{List, [], ◌∷◌, ◌++◌}
 use mathlib.Core.Bool.{Bool, true, false, ◌&&◌}
-use mathlib.Core.Option.{Option, none, some}
+use Rattle.std.specs.Prelude.{Option, None, Some}
 use native.Mathlib.Numerals.{add-one}
 use lib.ListN.{length, get_or, drop, drop_of_length-le, length-append}
 use lib.Seq.{drop-cons}
@@ -166,21 +166,21 @@ same_byte us a b g h d e =
 Stands : List ℕ → ℕ → ℕ → Type 0
 Stands us n b = (b < n) × (begins (character b) us ≡ true)
 
-among_some : (n : ℕ) (us : List ℕ) (b : ℕ) → among n us ≡ some b → Stands us n b
+among_some : (n : ℕ) (us : List ℕ) (b : ℕ) → among n us ≡ Some b → Stands us n b
 unfolding among Stands
 among_some zero us b e = let z : ◌≡◌ {A = ℕ} 0 1 = cc in absurd (omega arith)
 among_some (suc n) us b e = judged (begins (character n) us) refl (λ g. among_some n us b g) e
   where
-    judged : (o : Bool) → begins (character n) us ≡ o → (among n us ≡ some b → Stands us n b) → pick o (some n) (among n us) ≡ some b → Stands us (suc n) b
+    judged : (o : Bool) → begins (character n) us ≡ o → (among n us ≡ Some b → Stands us n b) → pick o (Some n) (among n us) ≡ Some b → Stands us (suc n) b
     judged true t more g = let h : n ≡ b = cc in (omega arith, rw h at t)
     judged false t more g = (omega (arith, (more g).0), (more g).1)
 
-among_none : (n : ℕ) (us : List ℕ) (b : ℕ) → among n us ≡ none → b < n → begins (character b) us ≡ true → ⊥
+among_none : (n : ℕ) (us : List ℕ) (b : ℕ) → among n us ≡ None → b < n → begins (character b) us ≡ true → ⊥
 unfolding among
 among_none zero us b e h t = omega arith
 among_none (suc n) us b e h t = judged (begins (character n) us) refl (λ g k. among_none n us b g k t) e
   where
-    judged : (o : Bool) → begins (character n) us ≡ o → (among n us ≡ none → b < n → ⊥) → pick o (some n) (among n us) ≡ none → ⊥
+    judged : (o : Bool) → begins (character n) us ≡ o → (among n us ≡ None → b < n → ⊥) → pick o (Some n) (among n us) ≡ None → ⊥
     judged true s more g = let z : ◌≡◌ {A = ℕ} 0 1 = cc in omega arith
     judged false s more g = elim (dec_lt b n) [
       | yes d ↦ more g d
@@ -191,34 +191,34 @@ among_none (suc n) us b e h t = judged (begins (character n) us) refl (λ g k. a
           let y : ◌≡◌ {A = ℕ} 0 1 = cc in omega arith
     ]
 
-pub front_stands : (us : List ℕ) (b : ℕ) → front us ≡ some b → (b < 256) × (begins (character b) us ≡ true)
+pub front_stands : (us : List ℕ) (b : ℕ) → front us ≡ Some b → (b < 256) × (begins (character b) us ≡ true)
 unfolding front Stands
 front_stands us b e = among_some 256 us b e
 
-pub front_is : (us : List ℕ) (b : ℕ) → b < 256 → begins (character b) us ≡ true → front us ≡ some b
+pub front_is : (us : List ℕ) (b : ℕ) → b < 256 → begins (character b) us ≡ true → front us ≡ Some b
 unfolding front
 front_is us b h e = judged (front us) refl
   where
-    judged : (o : Option ℕ) → front us ≡ o → o ≡ some b
-    judged none g = let z : ◌≡◌ {A = ℕ} 0 1 = absurd (among_none 256 us b g h e) in cc
-    judged (some a) g =
+    judged : (o : Option ℕ) → front us ≡ o → o ≡ Some b
+    judged None g = let z : ◌≡◌ {A = ℕ} 0 1 = absurd (among_none 256 us b g h e) in cc
+    judged (Some a) g =
         let t = front_stands us a g in
-        ap (λ (x : ℕ). some x) (same_byte us a b t.0 h t.1 e)
+        ap (λ (x : ℕ). Some x) (same_byte us a b t.0 h t.1 e)
 
 -- where the one byte that can have its character at the front has not, none has
-pub front_is_none : (us : List ℕ) (a : ℕ) → ((b : ℕ) → b < 256 → begins (character b) us ≡ true → a ≡ b) → begins (character a) us ≡ false → front us ≡ none
+pub front_is_none : (us : List ℕ) (a : ℕ) → ((b : ℕ) → b < 256 → begins (character b) us ≡ true → a ≡ b) → begins (character a) us ≡ false → front us ≡ None
 front_is_none us a one e = judged (front us) refl
   where
-    judged : (o : Option ℕ) → front us ≡ o → o ≡ none
-    judged none g = refl
-    judged (some b) g =
+    judged : (o : Option ℕ) → front us ≡ o → o ≡ None
+    judged None g = refl
+    judged (Some b) g =
         let t = front_stands us b g in
         let k : a ≡ b = one b t.0 t.1 in
         let r : begins (character a) us ≡ true = rw (← k) at t.1 in
         let z : ◌≡◌ {A = Bool} true false = sym r ∙ e in cc
 
 -- the character is no longer than the text
-pub front_length : (us : List ℕ) (b : ℕ) → front us ≡ some b → (1 ≤ length (character b)) × (length (character b) ≤ length us)
+pub front_length : (us : List ℕ) (b : ℕ) → front us ≡ Some b → (1 ≤ length (character b)) × (length (character b) ≤ length us)
 front_length us b e =
     let g : us ≡ character b ++ drop (length (character b)) us = begins_split (character b) us (front_stands us b e).1 in
     let l : length us ≡ length (character b) + length (drop (length (character b)) us) = ap length g ∙ length-append (character b) (drop (length (character b)) us) in

@@ -5,17 +5,17 @@ use native.Mathlib.Decide.{dec_le, dec_lt}
 use mathlib.Core.Logic.{◌↔◌}
 use mathlib.Core.Path.{◌≡◌, refl, ap, sym, ◌∙◌}
 use mathlib.Core.List.{List, [], ◌∷◌, ◌++◌}
-use mathlib.Core.Option.{Option, none, some}
+use Rattle.std.specs.Prelude.{Option, None, Some, Ok, Err}
 use lib.ListN.{length, take, drop, length-append, length-take, get_or-eq_default}
 use lib.Seq.{drop-append_seam, take_at, get_or-drop, get_or-take}
 use borrow.Author.Tests.{le-leb, lt-leb}
 use Rattle.format.specs.declared.Range.{Range}
 use Rattle.format.specs.Yields.{Bytes}
 use Rattle.bin.specs.Part.{part_of}
-use Rattle.utf8.specs.declared.Coded.TheVariants.{Wrote, NoRange, NoCharacter, Short}
+use Rattle.utf8.specs.declared.CodingError.TheVariants.{NoRange, NoCharacter, Short}
 use Rattle.utf8.specs.Characters.{character, written}
 use Rattle.utf8.specs.Back.{before, followed, front, back_by, back}
-use Rattle.utf8.specs.Answers.{Result, number_of, length_of, largest, put, to_utf8, handed, from_utf8}
+use Rattle.utf8.specs.Answers.{Answer, number_of, length_of, largest, put, to_utf8, handed, from_utf8}
 use Rattle.utf8.proofs.Front.{begins_split, begins_append, character_length, front_is, front_stands}
 use Rattle.utf8.proofs.Turns.{back_empty, back_next}
 
@@ -40,11 +40,11 @@ bytes_part s start end h i = elim (dec_le start end) [
 ]
 
 -- ==== "What was written reads back to the same bytes"
-pub written_back : (bs : List ℕ) → Bytes bs → back (written bs) ≡ some bs
+pub written_back : (bs : List ℕ) → Bytes bs → back (written bs) ≡ Some bs
 unfolding written
 written_back [] h = back_empty
 written_back (b ∷ bs) h =
-    let f : front (character b ++ written bs) ≡ some b = front_is (character b ++ written bs) b (h 0) (begins_append (character b) (written bs)) in
+    let f : front (character b ++ written bs) ≡ Some b = front_is (character b ++ written bs) b (h 0) (begins_append (character b) (written bs)) in
     let l : length (character b ++ written bs) ≡ length (character b) + length (written bs) = length-append (character b) (written bs) in
     let k : 0 < length (character b ++ written bs) = omega (arith, character_length b) in
     back_next (character b ++ written bs) b k f
@@ -55,7 +55,7 @@ written_back (b ∷ bs) h =
 Was : List ℕ → List ℕ → Type 0
 Was us bs = (written bs ≡ us) × Bytes bs
 
-back_was : (n : ℕ) (us bs : List ℕ) → back_by n us ≡ some bs → Was us bs
+back_was : (n : ℕ) (us bs : List ℕ) → back_by n us ≡ Some bs → Was us bs
 unfolding back_by written Was
 back_was zero [] bs e = let k : [] ≡ bs = cc in rw (← k) (refl, λ i. omega arith)
 back_was zero (u ∷ us) bs e = let z : ◌≡◌ {A = ℕ} 0 1 = cc in absurd (omega arith)
@@ -65,23 +65,23 @@ back_was (suc n) (u ∷ us) bs e = found (front (u ∷ us)) refl (λ w cs h. bac
     rest : ℕ → List ℕ
     rest b = drop (length (character b)) (u ∷ us)
 
-    joined : (b : ℕ) → front (u ∷ us) ≡ some b → (o : Option (List ℕ)) → ((cs : List ℕ) → o ≡ some cs → Was (rest b) cs) → before b o ≡ some bs → Was (u ∷ us) bs
-    joined b f none more g = let z : ◌≡◌ {A = ℕ} 0 1 = cc in absurd (omega arith)
-    joined b f (some cs) more g =
+    joined : (b : ℕ) → front (u ∷ us) ≡ Some b → (o : Option (List ℕ)) → ((cs : List ℕ) → o ≡ Some cs → Was (rest b) cs) → before b o ≡ Some bs → Was (u ∷ us) bs
+    joined b f None more g = let z : ◌≡◌ {A = ℕ} 0 1 = cc in absurd (omega arith)
+    joined b f (Some cs) more g =
         let k : b ∷ cs ≡ bs = cc in
         let t = front_stands (u ∷ us) b f in
         let w = more cs refl in
         rw (← k) (ap (λ (x : List ℕ). character b ++ x) w.0 ∙ sym (begins_split (character b) (u ∷ us) t.1), bytes_first b cs t.0 w.1)
 
-    found : (o : Option ℕ) → front (u ∷ us) ≡ o → ((w cs : List ℕ) → back_by n w ≡ some cs → Was w cs) → followed o (λ b. back_by n (rest b)) ≡ some bs → Was (u ∷ us) bs
-    found none f more g = let z : ◌≡◌ {A = ℕ} 0 1 = cc in absurd (omega arith)
-    found (some b) f more g = joined b f (back_by n (rest b)) (λ cs h. more (rest b) cs h) g
+    found : (o : Option ℕ) → front (u ∷ us) ≡ o → ((w cs : List ℕ) → back_by n w ≡ Some cs → Was w cs) → followed o (λ b. back_by n (rest b)) ≡ Some bs → Was (u ∷ us) bs
+    found None f more g = let z : ◌≡◌ {A = ℕ} 0 1 = cc in absurd (omega arith)
+    found (Some b) f more g = joined b f (back_by n (rest b)) (λ cs h. more (rest b) cs h) g
 
-pub back_written : (us bs : List ℕ) → back us ≡ some bs → written bs ≡ us
+pub back_written : (us bs : List ℕ) → back us ≡ Some bs → written bs ≡ us
 unfolding back Was
 back_written us bs e = (back_was (length us) us bs e).0
 
-pub accepted_exactly : (us bs : List ℕ) → (back us ≡ some bs) ↔ ((written bs ≡ us) × Bytes bs)
+pub accepted_exactly : (us bs : List ℕ) → (back us ≡ Some bs) ↔ ((written bs ≡ us) × Bytes bs)
 unfolding back Was
 accepted_exactly us bs = (λ e. back_was (length us) us bs e, λ w. ap back (sym w.0) ∙ written_back bs w.1)
 
@@ -96,17 +96,17 @@ written_long (b ∷ bs) =
     (omega (arith, l, c.0, t.0), omega (arith, l, c.1, t.1))
 
 -- ---- by cases of an answer
-module _ (P : Result → Type 0) where
+module _ (P : Answer → Type 0) where
   put_cases : (text out : List ℕ)
-      → P (record { coded = Wrote (length text); buffer = text ++ drop (length text) out })
-      → P (record { coded = Short (min (length text) largest); buffer = out }) → P (put text out)
+      → P (record { coded = Ok (length text); buffer = text ++ drop (length text) out })
+      → P (record { coded = Err (Short (min (length text) largest)); buffer = out }) → P (put text out)
   unfolding put
   put_cases text out w s = elim (dec_le (length text) (length out)) [
     | yes h ↦ rw (le-leb (length text) (length out) h) w
     | no h ↦ rw (lt-leb (length text) (length out) (omega arith)) s
   ]
 
-  to_cases : (s : List ℕ) (r : Range) (out : List ℕ) → P (record { coded = NoRange; buffer = out }) → P (put (written (part_of s r.start r.end)) out) → P (to_utf8 s r out)
+  to_cases : (s : List ℕ) (r : Range) (out : List ℕ) → P (record { coded = Err NoRange; buffer = out }) → P (put (written (part_of s r.start r.end)) out) → P (to_utf8 s r out)
   unfolding to_utf8
   to_cases s r out n p = elim (dec_le r.start r.end) [
     | yes d ↦ rw (le-leb r.start r.end d) (elim (dec_le r.end (length s)) [
@@ -116,16 +116,16 @@ module _ (P : Result → Type 0) where
     | no d ↦ rw (lt-leb r.start r.end (omega arith)) n
   ]
 
-  from_cases : (us out : List ℕ) → P (record { coded = NoCharacter; buffer = out }) → ((bs : List ℕ) → P (put bs out)) → P (from_utf8 us out)
+  from_cases : (us out : List ℕ) → P (record { coded = Err NoCharacter; buffer = out }) → ((bs : List ℕ) → P (put bs out)) → P (from_utf8 us out)
   unfolding from_utf8
   from_cases us out n p = judged (back us)
     where
       judged : (o : Option (List ℕ)) → P (handed o out)
-      judged none = n
-      judged (some bs) = p bs
+      judged None = n
+      judged (Some bs) = p bs
 
 -- ==== "A refusal leaves the buffer untouched"; and what was written leaves the bytes past its length
-abbrev pub Leaves : List ℕ → Result → Type 0
+abbrev pub Leaves : List ℕ → Answer → Type 0
 Leaves out x = ((number_of x.coded ≡ 0 → ⊥) → x.buffer ≡ out) × (drop (length_of x.coded) x.buffer ≡ drop (length_of x.coded) out)
 
 put_leaves : (text out : List ℕ) → Leaves out (put text out)
@@ -141,13 +141,13 @@ reading_leaves us out = from_cases (Leaves out) us out (λ n. refl, refl) (λ bs
 pub writing_not_10 : (s : List ℕ) (r : Range) (out : List ℕ) → number_of (to_utf8 s r out).coded ≡ 10 → ⊥
 writing_not_10 s r out = to_cases Not s r out (λ e. omega arith) (put_cases Not (written (part_of s r.start r.end)) out (λ e. omega arith) (λ e. omega arith))
   where
-    Not : Result → Type 0
+    Not : Answer → Type 0
     Not x = number_of x.coded ≡ 10 → ⊥
 
 pub reading_not_9 : (us out : List ℕ) → number_of (from_utf8 us out).coded ≡ 9 → ⊥
 reading_not_9 us out = from_cases Not us out (λ e. omega arith) (λ bs. put_cases Not bs out (λ e. omega arith) (λ e. omega arith))
   where
-    Not : Result → Type 0
+    Not : Answer → Type 0
     Not x = number_of x.coded ≡ 9 → ⊥
 
 -- ==== of the two functions: what the first wrote, lent to the second, gives the range's own bytes
@@ -162,10 +162,10 @@ reads_again s r out room h = to_cases Again s r out (λ e. absurd (omega arith))
     text : List ℕ
     text = written part
 
-    Again : Result → Type 0
+    Again : Answer → Type 0
     Again x = number_of x.coded ≡ 0 → from_utf8 (take (length_of x.coded) x.buffer) room ≡ put part room
 
-    wrote : Again (record { coded = Wrote (length text); buffer = text ++ drop (length text) out })
+    wrote : Again (record { coded = Ok (length text); buffer = text ++ drop (length text) out })
     wrote e =
         ap (λ (us : List ℕ). handed (back us) room) (take_at text (drop (length text) out) (length text) refl)
         ∙ ap (λ (o : Option (List ℕ)). handed o room) (written_back part (bytes_part s r.start r.end h))

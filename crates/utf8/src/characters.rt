@@ -1,7 +1,8 @@
 // The character of a byte: its code point by the windows-1252 index, and that in UTF-8.
-ghost use Rattle.std.specs.Prelude.{◌≡◌};
+ghost use Rattle.std.specs.Prelude.{◌≡◌, ◌≤◌, ℕ, List, take};
 ghost use Rattle.utf8.specs.Characters.{code_point, encoded, character};
-ghost use Rattle.utf8.specs.Found.{Holds};
+
+use std::marker::Model;
 
 // Of the bytes 0x80 to 0x9F.
 pub const INDEX: [u16; 32] = [
@@ -10,28 +11,41 @@ pub const INDEX: [u16; 32] = [
     0x2122, 0x161, 0x203A, 0x153, 0x9D, 0x17E, 0x178,
 ];
 
-// The first `len` of three bytes.
-#[derive(Clone, Copy)]
+// One to three bytes of UTF-8: the first `len`.
+#[derive(Drop)]
 pub struct Character {
-    pub bytes: [u8; 3],
-    pub len: usize,
+    bytes: [u8; 3],
+    len: usize,
 }
 
+impl Model for Character {
+    ghost Value = { List ℕ };
+
+    ghost view = { λ c. take c.len c.bytes };
+
+    ghost invariant = { λ c. c.len ≤ 3 };
+}
+
+impl Character {
+    pub fn as_slice(&self) -> &[u8]
+        ensures { result.now ≡ self.now }
+    {
+        &self.bytes[..self.len]
+    }
+}
+
+#[tactic(auto, unfolding(crate::specs::Characters::index, crate::specs::Characters::code_point))]
 fn code_point(b: u8) -> u16
     ensures { result ≡ code_point b }
 {
-    if b < 0x80 {
-        return b as u16;
+    match b {
+        0x80..=0x9F => INDEX[(b - 0x80) as usize],
+        _ => u16::from(b),
     }
-    if b <= 0x9F {
-        let i = (b - 0x80) as usize;
-        return INDEX[i];
-    }
-    b as u16
 }
 
 fn encoded_of(code: u16) -> Character
-    ensures { Holds (encoded code) result.len result.bytes }
+    ensures { result ≡ encoded code }
 {
     if code < 0x80 {
         return Character {
@@ -56,8 +70,9 @@ fn encoded_of(code: u16) -> Character
     }
 }
 
+#[tactic(auto, unfolding(crate::specs::Characters::character))]
 pub fn character_of(b: u8) -> Character
-    ensures { Holds (character b) result.len result.bytes }
+    ensures { result ≡ character b }
 {
     encoded_of(code_point(b))
 }

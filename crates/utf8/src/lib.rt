@@ -9,13 +9,13 @@ mod back;
 mod characters;
 mod text;
 
-use crate::back::ReadBack;
 use format::Range;
+use std::error::Error;
+use std::fmt;
 
-#[derive(Clone, Copy)]
-pub enum Coded {
-    // so many bytes
-    Wrote(usize),
+// Why nothing was written.
+#[derive(Clone, Copy, PartialEq, Eq, Debug)]
+pub enum CodingError {
     // start after end, or end past the input
     NoRange,
     // bytes that are no shortest form of a character of the index
@@ -24,55 +24,58 @@ pub enum Coded {
     Short(usize),
 }
 
-// Document 02's number of an answer.
-pub fn number(x: Coded) -> usize
+impl fmt::Display for CodingError {
+    fn fmt<W: fmt::Write>(&self, f: &mut fmt::Formatter<W>) -> fmt::Result {
+        match *self {
+            CodingError::NoRange => f.write_str("the range is no part of the input"),
+            CodingError::NoCharacter => f.write_str("no character of the index"),
+            CodingError::Short(needed) => write!(f, "{needed} bytes are needed"),
+        }
+    }
+}
+
+impl Error for CodingError {}
+
+// Document 02's number of an answer; this and the length below are the words that C gets.
+pub fn number(x: Result<usize, CodingError>) -> usize
     ensures { result ≡ number_of x }
 {
     match x {
-        Coded::Wrote(_) => 0,
-        Coded::NoRange => 9,
-        Coded::NoCharacter => 10,
-        Coded::Short(_) => 8,
+        Ok(_) => 0,
+        Err(CodingError::NoRange) => 9,
+        Err(CodingError::NoCharacter) => 10,
+        Err(CodingError::Short(_)) => 8,
     }
 }
 
 // The length, or the length needed.
-pub fn length(x: Coded) -> usize
+pub fn length(x: Result<usize, CodingError>) -> usize
     ensures { result ≡ length_of x }
 {
     match x {
-        Coded::Wrote(n) => n,
-        Coded::NoRange => 0,
-        Coded::NoCharacter => 0,
-        Coded::Short(n) => n,
+        Ok(n) | Err(CodingError::Short(n)) => n,
+        Err(CodingError::NoRange | CodingError::NoCharacter) => 0,
     }
 }
 
-// Any range of any input.
-pub fn to_utf8(data: &[u8], range: Range, out: &mut [u8]) -> Coded
+// Any range of any input: how many bytes were written.
+pub fn to_utf8(data: &[u8], range: Range, out: &mut [u8]) -> Result<usize, CodingError>
     ensures { let said = to_utf8 «data».now range out.old in (result ≡ said.coded) × (out.new ≡ said.buffer) }
 {
-    let start = range.start;
-    let end = range.end;
-    if end < start {
-        return Coded::NoRange;
-    }
-    if data.len() < end {
-        return Coded::NoRange;
-    }
-    text::put(&data[start..end], out)
+    let text = data
+        .get(range.start..range.end)
+        .ok_or(CodingError::NoRange)?;
+    text::put(text, out)
 }
 
 // All of `data`: a caller with a range lends that part.
-pub fn from_utf8(data: &[u8], out: &mut [u8]) -> Coded
+pub fn from_utf8(data: &[u8], out: &mut [u8]) -> Result<usize, CodingError>
     ensures { let said = from_utf8 «data».now out.old in (result ≡ said.coded) × (out.new ≡ said.buffer) }
 {
-    let ReadBack::Characters(size) = back::count(data) else {
-        return Coded::NoCharacter;
-    };
+    let size = back::read(data, &mut []).ok_or(CodingError::NoCharacter)?;
     if out.len() < size {
-        return Coded::Short(size);
+        return Err(CodingError::Short(size));
     }
     back::read(data, out);
-    Coded::Wrote(size)
+    Ok(size)
 }

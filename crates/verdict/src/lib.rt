@@ -2,45 +2,32 @@
 #![tactic(auto)]
 
 ghost use Rattle.std.specs.Prelude.{◌≡◌};
-ghost use Rattle.bin.specs.Signed.{signed};
 ghost use Rattle.format.specs.Verdict.{up_to};
-ghost use Rattle.model.specs.declared.Outcome.TheVariants.{Count};
 ghost use Rattle.words.specs.Left.{stop_answer};
 
-use format::{Counted, Stop};
+use format::Stop;
 use model::Outcome;
 
 // The first n bytes, or all.
+#[tactic(auto, using(format::proofs::Verdict::upto_all), unfolding(format::specs::Verdict::up_to))]
 pub fn up_to(data: &[u8], n: usize) -> &[u8]
     ensures { result.now ≡ up_to n «data».now }
 {
-    if n < data.len() {
-        return &data[..n];
-    }
-    data
+    &data[..n.min(data.len())]
 }
 
-fn count_refused(which: Counted, value: u32, offset: u32) -> Outcome
-    ensures { result ≡ Count which (signed 2147483648 value) offset }
-{
-    Outcome::Count(which, bin::signed::to_i32(value), offset as usize)
-}
-
-// Why reading stopped, as an outcome: where the bytes end, the file ends or the limit was met.
+// Why reading stopped, as an outcome: where the bytes end, the file ends or the limit was met. `longer` is that fact, and no
+// choice of a step.
 pub fn refusal_of(stop: Stop, longer: bool) -> Outcome
     ensures { result ≡ stop_answer longer stop }
 {
     match stop {
-        Stop::Ends => {
-            if longer {
-                Outcome::TooLong
-            } else {
-                Outcome::Truncated
-            }
-        }
-        Stop::Text => Outcome::Truncated,
+        Stop::Ends if longer => Outcome::TooLong,
+        Stop::Ends | Stop::Text => Outcome::Truncated,
         Stop::Version => Outcome::Version,
-        Stop::Count(which, value, offset) => count_refused(which, value, offset),
+        Stop::Count(which, value, offset) => {
+            Outcome::Count(which, bin::signed::to_i32(value), offset as usize)
+        }
         Stop::Empty => Outcome::Empty,
     }
 }

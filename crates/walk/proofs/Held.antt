@@ -1,4 +1,5 @@
 -- Beats entered while what is remembered of their track is lent.
+use Rattle.std.specs.Prelude.{None, Some}
 use Prim.Native.Nat.{ℕ, zero, suc, ◌+◌, ◌*◌, ◌-◌, ◌%◌, ◌<◌, ◌≤◌}
 use native.Mathlib.Omega.{arith}
 use native.Mathlib.Nat.{mod-eq_of_lt}
@@ -7,18 +8,17 @@ use mathlib.Core.List.{List, [], ◌∷◌}
 use lib.ListN.{length, get_or, set, drop, length-set}
 use lib.Seq.{sets, length-sets, set-set, set_comm, get_or-set_same, get_or-set_other, get_or-drop}
 use Rattle.format.specs.declared.Stop.{Stop}
-use Rattle.format.specs.declared.Place.{Place}
-use Rattle.format.specs.declared.Place.TheVariants.{Stopped}
+use Rattle.std.specs.Prelude.{Err}
 use Rattle.format.specs.Prog.{Prog, turns}
-use Rattle.format.specs.Place.{Reaches, Leads}
+use Rattle.format.specs.Place.{Place, Reaches, Leads}
 use Rattle.format.proofs.Rules.{turn_on, turns_start, turns_still, turns_done}
 use Rattle.model.specs.Kinds.{flag_of}
 use Rattle.score.specs.declared.Fretboard.{Fretboard}
-use Rattle.score.specs.declared.Hammer.TheVariants.{NoHammer, Waits}
 use Rattle.score.specs.declared.Tally.{Tally}
 use Rattle.score.specs.declared.Voice.{Voice}
 use Rattle.score.specs.Page.{Walk}
 use Rattle.words.specs.Words.{Words, part_stride, running_place, voice_place, fret_of, hammer_of, voice_words, voice_from}
+use Rattle.words.specs.declared.voice.VoiceWords.{VoiceWords}
 use Rattle.words.specs.Voices.{voice_in}
 use Rattle.words.specs.Meant.{walk_of}
 use Rattle.refine.proofs.Parts.{LastFits, HammerFits, VoiceFits, voice_length}
@@ -58,16 +58,16 @@ unfolding fret_of
 fret_fits zero = tt
 fret_fits (suc f) = omega arith
 
-said_fits : (w : List ℕ) → VoiceFits (voice_in w)
+said_fits : (w : VoiceWords) → VoiceFits (voice_in w)
 unfolding voice_from hammer_of
 said_fits w =
     record {
       strings = refl;
-      frets = (fret_fits (get_or w 0 0), (fret_fits (get_or w 1 0), (fret_fits (get_or w 2 0), (fret_fits (get_or w 3 0), (fret_fits (get_or w 4 0), (fret_fits (get_or w 5 0), (fret_fits (get_or w 6 0), tt)))))));
-      hammer = pick_both HammerFits (flag_of (get_or w 7 0)) (Waits (get_or w 8 0) (get_or w 9 0 % 256)) NoHammer (omega arith) tt;
+      frets = (fret_fits (get_or w.words 0 0), (fret_fits (get_or w.words 1 0), (fret_fits (get_or w.words 2 0), (fret_fits (get_or w.words 3 0), (fret_fits (get_or w.words 4 0), (fret_fits (get_or w.words 5 0), (fret_fits (get_or w.words 6 0), tt)))))));
+      hammer = pick_both HammerFits (flag_of (get_or w.words 7 0)) (Some (record { row = get_or w.words 8 0; key = get_or w.words 9 0 % 256 })) None (omega arith) tt;
     }
 
-said_length : (w : List ℕ) → length (voice_words (voice_in w)) ≡ 15
+said_length : (w : VoiceWords) → length (voice_words (voice_in w)) ≡ 15
 said_length w = voice_length (voice_in w) (said_fits w)
 
 -- a voice stands behind the running dynamic, in its part
@@ -83,7 +83,7 @@ module _ (track voice : ℕ) where
   abbrev running : ℕ
   running = track * part_stride + running_place
 
-  put_again : (w u : List ℕ) (r q : ℕ) (parts : List ℕ) → put_back track voice (voice_in u) q (put_back track voice (voice_in w) r parts) ≡ put_back track voice (voice_in u) q parts
+  put_again : (w u : VoiceWords) (r q : ℕ) (parts : List ℕ) → put_back track voice (voice_in u) q (put_back track voice (voice_in w) r parts) ≡ put_back track voice (voice_in u) q parts
   put_again w u r q parts =
       let ws = voice_words (voice_in w) in
       let us = voice_words (voice_in u) in
@@ -92,7 +92,7 @@ module _ (track voice : ℕ) where
       ∙ ap (λ (x : List ℕ). set x running r) (sets_sets ws us parts at (said_length w ∙ sym (said_length u))))
       ∙ set-set (sets parts at us) running r q
 
-  lent_again : {board : Fretboard} {memory : Voice} {before : ℕ} {parts : List ℕ} (w : List ℕ) (r : ℕ) → track * part_stride + part_stride ≤ length parts → r < 256 → Lent track voice board memory before parts → Lent track voice board (voice_in w) r (put_back track voice (voice_in w) r parts)
+  lent_again : {board : Fretboard} {memory : Voice} {before : ℕ} {parts : List ℕ} (w : VoiceWords) (r : ℕ) → track * part_stride + part_stride ≤ length parts → r < 256 → Lent track voice board memory before parts → Lent track voice board (voice_in w) r (put_back track voice (voice_in w) r parts)
   lent_again {parts = parts} w r h g x =
       let ws = voice_words (voice_in w) in
       let put = sets parts at ws in
@@ -119,7 +119,7 @@ abbrev put_if : ℕ → (track voice : ℕ) → Voice → (running : ℕ) → Li
 put_if zero track voice memory running parts = parts
 put_if (suc i) track voice memory running parts = put_back track voice memory running parts
 
-put_next : (i track voice : ℕ) (w u : List ℕ) (r q : ℕ) (parts : List ℕ) → put_back track voice (voice_in u) q (put_if i track voice (voice_in w) r parts) ≡ put_back track voice (voice_in u) q parts
+put_next : (i track voice : ℕ) (w u : VoiceWords) (r q : ℕ) (parts : List ℕ) → put_back track voice (voice_in u) q (put_if i track voice (voice_in w) r parts) ≡ put_back track voice (voice_in u) q parts
 put_next zero track voice w u r q parts = refl
 put_next (suc i) track voice w u r q parts = put_again track voice w u r q parts
 
@@ -127,8 +127,8 @@ put_length : (i track voice : ℕ) (memory : Voice) (r : ℕ) (parts : List ℕ)
 put_length zero track voice memory r parts = refl
 put_length (suc i) track voice memory r parts = length-set (sets parts (at track voice) (voice_words memory)) (running track voice) r ∙ length-sets parts (at track voice) (voice_words memory)
 
-module _ (n : ℕ) (f : ℕ → Walk Words → Prog (Walk Words)) (s : List ℕ) (track voice : ℕ) (board : Fretboard) (from : Place) (w₀ : List ℕ) (r₀ : ℕ) (before : List ℕ → Walk Words) where
-  pub record Holding (i : ℕ) (to : Place) (w : List ℕ) (r : ℕ) (now : List ℕ → Walk Words) : Type 0 where
+module _ (n : ℕ) (f : ℕ → Walk Words → Prog (Walk Words)) (s : List ℕ) (track voice : ℕ) (board : Fretboard) (from : Place) (w₀ : VoiceWords) (r₀ : ℕ) (before : List ℕ → Walk Words) where
+  pub record Holding (i : ℕ) (to : Place) (w : VoiceWords) (r : ℕ) (now : List ℕ → Walk Words) : Type 0 where
     pub holds : (parts : List ℕ) → track * part_stride + part_stride ≤ length parts → Lent track voice board (voice_in w₀) r₀ parts
         → Lent track voice board (voice_in w) r (put_if i track voice (voice_in w) r parts)
         × Leads (turns n 0 f (before parts)) s from (turns (n - i) i f (now (put_if i track voice (voice_in w) r parts))) to
@@ -136,8 +136,8 @@ module _ (n : ℕ) (f : ℕ → Walk Words → Prog (Walk Words)) (s : List ℕ)
   pub holding_starts : Holding 0 from w₀ r₀ before
   holding_starts = record { holds = λ parts h x. (x, turns_start _ _ _) }
 
-  module _ {i : ℕ} {to : Place} {w : List ℕ} {r : ℕ} {now : List ℕ → Walk Words} (g : Holding i to w r now) where
-    pub holding_on : {next : Place} {u : List ℕ} {q : ℕ} {then : List ℕ → Walk Words} → i < n → q < 256
+  module _ {i : ℕ} {to : Place} {w : VoiceWords} {r : ℕ} {now : List ℕ → Walk Words} (g : Holding i to w r now) where
+    pub holding_on : {next : Place} {u : VoiceWords} {q : ℕ} {then : List ℕ → Walk Words} → i < n → (r < 256 → q < 256)
         → ((parts : List ℕ) → Lent track voice board (voice_in w) r parts → Reaches (f i (now parts)) s to (then (put_back track voice (voice_in u) q parts)) next)
         → Holding (i + 1) next u q then
     holding_on {next} {u} {q} {then} h b k =
@@ -148,11 +148,11 @@ module _ (n : ℕ) (f : ℕ → Walk Words → Prog (Walk Words)) (s : List ℕ)
               let same = put_next i track voice w u r q parts in
               let reaches : Reaches (f i (now (put_if i track voice (voice_in w) r parts))) s to (then (put_back track voice (voice_in u) q parts)) next
               = rw same at (k (put_if i track voice (voice_in w) r parts) y.0) in
-              rw e (rw same at (lent_again track voice u q (omega (arith, l, put_length i track voice (voice_in w) r parts)) b y.0), rw e at (turn_on _ _ _ _ y.1 h reaches));
+              rw e (rw same at (lent_again track voice u q (omega (arith, l, put_length i track voice (voice_in w) r parts)) (b (omega (arith, y.0.runs))) y.0), rw e at (turn_on _ _ _ _ y.1 h reaches));
         }
 
     pub holding_stops : {next : Place} {x : Stop} {a : List ℕ → Walk Words} {b : Walk Words} → i < n
-        → ((parts : List ℕ) → Lent track voice board (voice_in w) r parts → Reaches (f i (now parts)) s to (a parts) next) → next ≡ Stopped x
+        → ((parts : List ℕ) → Lent track voice board (voice_in w) r parts → Reaches (f i (now parts)) s to (a parts) next) → next ≡ Err x
         → (parts : List ℕ) → track * part_stride + part_stride ≤ length parts → Lent track voice board (voice_in w₀) r₀ parts → Reaches (turns n 0 f (before parts)) s from b next
     holding_stops h k z parts l x = let y = g.holds parts l x in turns_still (turn_on _ _ _ _ y.1 h (k _ y.0)) z
 

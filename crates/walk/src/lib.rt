@@ -1,632 +1,333 @@
 // The walk over bars, tracks, voices and beats.
 #![tactic(auto)]
 
-ghost use Rattle.format.specs.Place.{Reaches};
+ghost use Rattle.format.specs.Place.{Reaches, Reads};
 ghost use Rattle.format.specs.Prog.{turns};
 ghost use Rattle.score.specs.File as file;
-ghost use Rattle.words.specs.Meant.{walk_of};
-ghost use Rattle.std.specs.Prelude.{◌≡◌, false, List, ℕ, ◌+◌, ◌*◌, ◌<◌, ◌≤◌, min, length};
+ghost use Rattle.std.specs.Prelude.{◌≡◌, Bool, true, false, List, ℕ, ◌+◌, ◌*◌, ◌<◌, ◌≤◌, min, length};
 ghost use Rattle.tables.specs.Table.{room};
 ghost use Rattle.words.specs.Words.{part_stride};
 ghost use Rattle.words.specs.Voices.{voice_in};
-ghost use Rattle.enter.specs.Steps.{tally_of};
-ghost use Rattle.enter.specs.Held as held;
-ghost use Rattle.walk.specs.Entering.{entering, beat_step, count_step, count_steps, Counts};
+ghost use Rattle.enter.specs.Held.{Lent, put_back};
+ghost use Rattle.enter.specs.Pages.{over, walked, SamePage};
+ghost use Rattle.walk.specs.Entering.{entering, beat_step};
 
-use beat::hop::BeatHop;
-use beat::places::{BEAT_WORDS, Beat};
-use bin::Number;
-use draft::chord::Chord;
-use enter::Progress;
-use format::{Counted, Place};
-use into_losses::Losses;
-use note::places::Notes;
-use score::{Fretboard, Tally};
-use words::voice::VoiceWords;
+use beat::places::BEAT_WORDS;
+use enter::{Held, Page};
+use format::{Counted, Place, Reading};
+use into_rows::keep::BeatWords;
+use into_tracks::parts::{board_at, put_running, put_voice, running_at, voice_at};
+use model::RowPlace;
 
-// What is counted so far, and where reading goes on.
-#[derive(Clone, Copy)]
-pub struct Walked {
-    pub tally: Tally,
-    pub next: Place,
+// The bytes, the place and the version stand apart, as in every function of the crates below that reads: a struct of them would be
+// taken apart at each call.
+
+// A pass over the beats: one that counts them, or one that enters them.
+pub trait Pass {
+    ghost counting: { Bool };
+
+    fn beats(
+        page: &mut Page,
+        scratch: &mut BeatWords,
+        s: &[u8],
+        from: Place,
+        v: u32,
+        n: u32,
+        place: RowPlace,
+    ) -> Place
+        requires { place.track * part_stride + part_stride ≤ length page.old.parts.now }
+        ensures beats { Reaches (turns n 0 (file.one_beat (entering counting s.now) v place.bar place.track place.voice) (walked page.old))
+            s.now from (walked page.new) result }
+        ensures lent { SamePage page.old page.new };
 }
 
-// The same while the losses are lent.
-#[derive(Clone, Copy)]
-struct Step {
-    progress: Progress,
-    next: Place,
-}
+pub struct Counting;
 
-// The same after beats of a track, with its running dynamic.
-#[derive(Clone, Copy)]
-struct Entered {
-    progress: Progress,
-    running: u8,
-    next: Place,
-}
-
-fn progress_of(tally: Tally) -> Progress
-    ensures { tally_of result tally.losses ≡ tally }
-{
-    let kept = tally.kept;
-    Progress {
-        kept,
-        texts: tally.texts,
-        text_room: tally.text_room,
-        point_room: tally.point_room,
-        flat: tally.flat,
-    }
-}
-
-fn tally_of(progress: Progress, losses: [u32; 17]) -> Tally
-    ensures { result ≡ tally_of progress losses }
-{
-    let kept = progress.kept;
-    Tally {
-        kept,
-        texts: progress.texts,
-        text_room: progress.text_room,
-        point_room: progress.point_room,
-        flat: progress.flat,
-        losses,
-    }
-}
+pub struct Entering;
 
 // A beat, while what is remembered of its track is lent.
 fn one_beat(
+    page: &mut Page,
+    scratch: &mut BeatWords,
     s: &[u8],
     from: Place,
     v: u32,
-    place: model::RowPlace,
-    board: Fretboard,
-    running: u8,
-    progress: Progress,
-    bars: &mut [u32],
-    rows: &mut [u32],
-    members: &mut [u32],
-    points: &mut [u32],
-    texts: &mut [u32],
-    memory: &mut VoiceWords,
-    lost: &mut Losses,
-    b: &mut Beat,
-    notes: &mut Notes,
-    chord: &mut Chord,
-) -> Entered
-    ensures { (parts : List ℕ)
-        → held.Lent place.track place.voice board (voice_in memory.old) running parts
-        → Reaches (beat_step false s.now v place.bar place.track place.voice
-        (walk_of bars.old rows.old members.old points.old texts.old
-        parts (tally_of progress lost.old)))
+    place: RowPlace,
+    held: &mut Held,
+) -> Place
+    ensures beat { (parts : List ℕ)
+        → Lent place.track place.voice held.old.board (voice_in held.old.memory) held.old.running parts
+        → Reaches (beat_step false s.now v place.bar place.track place.voice (over parts page.old))
         s.now from
-        (walk_of bars.new rows.new members.new points.new texts.new
-        (held.put_back place.track place.voice (voice_in memory.new) result.running parts)
-        (tally_of result.progress lost.new)) result.next }
+        (over (put_back place.track place.voice (voice_in held.new.memory) held.new.running parts) page.new) result }
+    ensures board { held.new.board ≡ held.old.board }
+    ensures byte { held.old.running < 256 → held.new.running < 256 }
+    ensures parts { page.new.parts.now ≡ page.old.parts.now }
+    ensures lent { SamePage page.old page.new }
 {
-    let next = beat::read_beat(s, from, v, b, notes);
-    let Place::At(_) = next else {
-        return Entered {
-            progress,
-            running,
-            next,
-        };
-    };
-    let added = enter::add_beat(
-        s, v, place, b, notes, chord, progress, lost, bars, rows, members, points, texts, board,
-        running, memory,
-    );
-    let progress = added.progress;
-    Entered {
-        progress,
-        running: added.running,
-        next,
-    }
+    let next = beat::read_beat(s, from, v, &mut scratch.beat, &mut scratch.notes)?;
+    page.add_beat(s, v, place, scratch, held);
+    Ok(next)
 }
 
 // The promise is for one beat or more of a track of which no word is missing: then what a beat leaves is what the next would load.
 fn held_beats(
+    page: &mut Page,
+    scratch: &mut BeatWords,
     s: &[u8],
     from: Place,
     v: u32,
     n: u32,
-    place: model::RowPlace,
-    board: Fretboard,
-    running: u8,
-    progress: Progress,
-    bars: &mut [u32],
-    rows: &mut [u32],
-    members: &mut [u32],
-    points: &mut [u32],
-    texts: &mut [u32],
-    memory: &mut VoiceWords,
-    lost: &mut Losses,
-    b: &mut Beat,
-    notes: &mut Notes,
-    chord: &mut Chord,
-) -> Entered
-    ensures { (parts : List ℕ)
+    place: RowPlace,
+    held: &mut Held,
+) -> Place
+    ensures beats { (parts : List ℕ)
         → 0 < n
         → place.track * part_stride + part_stride ≤ length parts
-        → held.Lent place.track place.voice board (voice_in memory.old) running parts
-        → Reaches (turns n 0 (file.one_beat (entering false s.now) v place.bar place.track place.voice)
-        (walk_of bars.old rows.old members.old points.old texts.old
-        parts (tally_of progress lost.old)))
+        → Lent place.track place.voice held.old.board (voice_in held.old.memory) held.old.running parts
+        → Reaches (turns n 0 (file.one_beat (entering false s.now) v place.bar place.track place.voice) (over parts page.old))
         s.now from
-        (walk_of bars.new rows.new members.new points.new texts.new
-        (held.put_back place.track place.voice (voice_in memory.new) result.running parts)
-        (tally_of result.progress lost.new)) result.next }
+        (over (put_back place.track place.voice (voice_in held.new.memory) held.new.running parts) page.new) result }
+    ensures parts { page.new.parts.now ≡ page.old.parts.now }
+    ensures lent { SamePage page.old page.new }
 {
-    let mut progress = progress;
-    let mut running = running;
     let mut at = from;
-    let mut i = 0;
-    while i < n {
-        let walked = one_beat(
-            s, at, v, place, board, running, progress, bars, rows, members, points, texts, memory,
-            lost, b, notes, chord,
-        );
-        progress = walked.progress;
-        running = walked.running;
-        at = walked.next;
-        let Place::At(_) = at else {
-            return Entered {
-                progress,
-                running,
-                next: at,
-            };
+    for _ in 0..n {
+        at = one_beat(page, scratch, s, at, v, place, held);
+        let Ok(_) = at else {
+            return at;
         };
-        i += 1;
     }
-    Entered {
-        progress,
-        running,
-        next: at,
+    at
+}
+
+// What is remembered of a track and of one of its voices.
+fn held_of(page: &Page, place: RowPlace) -> Held
+    ensures { Lent place.track place.voice result.board (voice_in result.memory) result.running page.now.parts.now }
+{
+    let track = place.track as usize;
+    Held {
+        board: board_at(page.parts, track),
+        running: running_at(page.parts, track),
+        memory: voice_at(page.parts, track, place.voice as usize),
     }
 }
 
 // What is remembered of a track is lent to all beats of one of its voices in a bar, and then put back; without a beat nothing is.
-fn beats(
-    s: &[u8],
-    from: Place,
-    v: u32,
-    n: u32,
-    place: model::RowPlace,
-    progress: Progress,
-    bars: &mut [u32],
-    rows: &mut [u32],
-    members: &mut [u32],
-    points: &mut [u32],
-    texts: &mut [u32],
-    parts: &mut [u32],
-    lost: &mut Losses,
-    b: &mut Beat,
-    notes: &mut Notes,
-    chord: &mut Chord,
-) -> Step
-    requires { place.track * part_stride + part_stride ≤ length parts.old }
-    ensures { let before = walk_of bars.old rows.old members.old
-        points.old texts.old parts.old (tally_of progress lost.old) in
-        let after = walk_of bars.new rows.new members.new
-        points.new texts.new parts.new (tally_of result.progress lost.new) in
-        Reaches (turns n 0 (file.one_beat (entering false s.now) v place.bar place.track place.voice) before)
-        s.now from after result.next }
-{
-    if n == 0 {
-        return Step {
-            progress,
-            next: from,
-        };
+impl Pass for Entering {
+    ghost counting = { false };
+
+    fn beats(
+        page: &mut Page,
+        scratch: &mut BeatWords,
+        s: &[u8],
+        from: Place,
+        v: u32,
+        n: u32,
+        place: RowPlace,
+    ) -> Place {
+        if n == 0 {
+            return from;
+        }
+        let mut held = held_of(page, place);
+        let next = held_beats(page, scratch, s, from, v, n, place, &mut held);
+        let track = place.track as usize;
+        put_voice(page.parts, track, place.voice as usize, &held.memory);
+        put_running(page.parts, track, held.running);
+        next
     }
-    let track = place.track as usize;
-    let voice = place.voice as usize;
-    let board = into_tracks::parts::board_at(parts, track);
-    let mut memory = into_tracks::parts::voice_at(parts, track, voice);
-    let running = into_tracks::parts::running_at(parts, track);
-    let entered = held_beats(
-        s,
-        from,
-        v,
-        n,
-        place,
-        board,
-        running,
-        progress,
-        bars,
-        rows,
-        members,
-        points,
-        texts,
-        &mut memory,
-        lost,
-        b,
-        notes,
-        chord,
-    );
-    into_tracks::parts::put_voice(parts, track, voice, &memory);
-    into_tracks::parts::put_running(parts, track, entered.running);
-    let progress = entered.progress;
-    let next = entered.next;
-    Step { progress, next }
 }
 
 // A beat that is read to be counted.
 fn count_read(
+    page: &mut Page,
+    scratch: &mut BeatWords,
     s: &[u8],
     from: Place,
     v: u32,
-    track: usize,
-    progress: Progress,
-    parts: &[u32],
-    b: &mut Beat,
-    notes: &mut Notes,
-) -> Step
-    ensures { Counts (count_step s.now v track) s.now parts.now from progress result.progress
-        result.next }
+    place: RowPlace,
+) -> Place
+    ensures beat { Reaches (beat_step true s.now v place.bar place.track place.voice (walked page.old))
+        s.now from (walked page.new) result }
+    ensures lent { SamePage page.old page.new }
 {
-    let past = beat::read_beat(s, from, v, b, notes);
-    let Place::At(_) = past else {
-        return Step {
-            progress,
-            next: past,
-        };
-    };
-    let progress = enter::count::count_beat(s, track, b, notes, progress, parts);
-    Step {
-        progress,
-        next: past,
-    }
+    let past = beat::read_beat(s, from, v, &mut scratch.beat, &mut scratch.notes)?;
+    page.count_beat(s, place.track as usize, &scratch.beat, &scratch.notes);
+    Ok(past)
 }
 
-// Apart from `beats`: a pass that counts goes over most of the bytes in these few lines. A plain beat is not even read. The two ways
-// meet here and not in a function of one beat, which would hand on what is counted once more.
-fn count_beats(
-    s: &[u8],
-    from: Place,
-    v: u32,
-    n: u32,
-    track: usize,
-    progress: Progress,
-    parts: &[u32],
-    b: &mut Beat,
-    notes: &mut Notes,
-) -> Step
-    ensures { Counts (count_steps n s.now v track) s.now parts.now from progress
-        result.progress result.next }
-{
-    let mut progress = progress;
-    let mut at = from;
-    let mut i = 0;
-    while i < n {
-        let hop = beat::hop::hop_beat(s, at, v);
-        if let BeatHop::To(next, strings) = hop {
-            progress = enter::count::count_plain(strings, track, progress, parts);
-            at = Place::At(next);
-        } else {
-            let counted = count_read(s, at, v, track, progress, parts, b, notes);
-            progress = counted.progress;
-            at = counted.next;
+// A pass that counts goes over most of the bytes in these few lines. A plain beat is not even read. The two ways meet here and not in a
+// function of one beat, which would hand on what is counted once more.
+impl Pass for Counting {
+    ghost counting = { true };
+
+    fn beats(
+        page: &mut Page,
+        scratch: &mut BeatWords,
+        s: &[u8],
+        from: Place,
+        v: u32,
+        n: u32,
+        place: RowPlace,
+    ) -> Place {
+        let mut at = from;
+        for _ in 0..n {
+            if let Some((next, strings)) = beat::hop::hop_beat(s, at, v) {
+                page.count_plain(strings, place.track as usize);
+                at = Ok(next);
+            } else {
+                at = count_read(page, scratch, s, at, v, place);
+            }
+            let Ok(_) = at else {
+                return at;
+            };
         }
-        let Place::At(_) = at else {
-            return Step { progress, next: at };
-        };
-        i += 1;
+        at
     }
-    Step { progress, next: at }
 }
 
-fn voice(
+fn one_voice<P: Pass>(
+    page: &mut Page,
+    scratch: &mut BeatWords,
     s: &[u8],
     from: Place,
     v: u32,
-    counting: bool,
-    place: model::RowPlace,
-    progress: Progress,
-    bars: &mut [u32],
-    rows: &mut [u32],
-    members: &mut [u32],
-    points: &mut [u32],
-    texts: &mut [u32],
-    parts: &mut [u32],
-    lost: &mut Losses,
-    b: &mut Beat,
-    notes: &mut Notes,
-    chord: &mut Chord,
-) -> Step
-    requires { place.track * part_stride + part_stride ≤ length parts.old }
-    ensures { let before = walk_of bars.old rows.old members.old
-        points.old texts.old parts.old (tally_of progress lost.old) in
-        let after = walk_of bars.new rows.new members.new
-        points.new texts.new parts.new (tally_of result.progress lost.new) in
-        Reaches (file.voice (entering counting s.now) v place.bar place.track place.voice before)
-        s.now from after result.next }
+    place: RowPlace,
+) -> Place
+    requires { place.track * part_stride + part_stride ≤ length page.old.parts.now }
+    ensures voice { Reaches (file.voice (entering P.counting s.now) v place.bar place.track place.voice (walked page.old))
+        s.now from (walked page.new) result }
+    ensures lent { SamePage page.old page.new }
 {
-    let count = bin::count_at(s, from, Counted::Beats);
-    let at = count.next;
-    if counting {
-        let track = place.track as usize;
-        return count_beats(s, at, v, count.value, track, progress, parts, b, notes);
-    }
-    beats(
-        s,
-        at,
-        v,
-        count.value,
-        place,
-        progress,
-        bars,
-        rows,
-        members,
-        points,
-        texts,
-        parts,
-        lost,
-        b,
-        notes,
-        chord,
-    )
+    let (n, at) = bin::count_at(s, from, Counted::Beats)?;
+    P::beats(page, scratch, s, Ok(at), v, n, place)
 }
 
 // How many voices a bar of a track has: one before v500, and from it two, after a byte that is passed over.
-fn voices_at(s: &[u8], from: Place, v: u32) -> Number
-    ensures { Reaches (file.voices v) s.now from result.value result.next }
+fn voices_at(s: &[u8], from: Place, v: u32) -> Reading<u32>
+    ensures { Reads (file.voices v) s.now from result }
 {
-    if 500 <= v {
-        return Number {
-            value: 2,
-            next: bin::skip_at(s, from, 1),
-        };
+    if v < 500 {
+        return Ok((1, from?));
     }
-    Number {
-        value: 1,
-        next: from,
-    }
+    let at = bin::skip_at(s, from, 1)?;
+    Ok((2, at))
 }
 
-fn voices(
+fn voices<P: Pass>(
+    page: &mut Page,
+    scratch: &mut BeatWords,
     s: &[u8],
     from: Place,
     v: u32,
-    counting: bool,
     n: u32,
     bar: u32,
     track: u32,
-    progress: Progress,
-    bars: &mut [u32],
-    rows: &mut [u32],
-    members: &mut [u32],
-    points: &mut [u32],
-    texts: &mut [u32],
-    parts: &mut [u32],
-    lost: &mut Losses,
-    b: &mut Beat,
-    notes: &mut Notes,
-    chord: &mut Chord,
-) -> Step
-    requires { track * part_stride + part_stride ≤ length parts.old }
-    ensures { let before = walk_of bars.old rows.old members.old
-        points.old texts.old parts.old (tally_of progress lost.old) in
-        let after = walk_of bars.new rows.new members.new
-        points.new texts.new parts.new (tally_of result.progress lost.new) in
-        Reaches (turns n 0 (file.voice (entering counting s.now) v bar track) before)
-        s.now from after result.next }
+) -> Place
+    requires { track * part_stride + part_stride ≤ length page.old.parts.now }
+    ensures voices { Reaches (turns n 0 (file.voice (entering P.counting s.now) v bar track) (walked page.old))
+        s.now from (walked page.new) result }
+    ensures lent { SamePage page.old page.new }
 {
-    let mut progress = progress;
     let mut at = from;
-    let mut i = 0;
-    while i < n {
-        let walked = voice(
-            s,
-            at,
-            v,
-            counting,
-            model::RowPlace {
-                bar,
-                track,
-                voice: i,
-            },
-            progress,
-            bars,
-            rows,
-            members,
-            points,
-            texts,
-            parts,
-            lost,
-            b,
-            notes,
-            chord,
-        );
-        progress = walked.progress;
-        at = walked.next;
-        let Place::At(_) = at else {
-            return Step { progress, next: at };
+    for voice in 0..n {
+        at = one_voice::<P>(page, scratch, s, at, v, RowPlace { bar, track, voice });
+        let Ok(_) = at else {
+            return at;
         };
-        i += 1;
     }
-    Step { progress, next: at }
+    at
 }
 
-fn bar_track(
+fn bar_track<P: Pass>(
+    page: &mut Page,
+    scratch: &mut BeatWords,
     s: &[u8],
     from: Place,
     v: u32,
-    counting: bool,
     bar: u32,
     track: u32,
-    progress: Progress,
-    bars: &mut [u32],
-    rows: &mut [u32],
-    members: &mut [u32],
-    points: &mut [u32],
-    texts: &mut [u32],
-    parts: &mut [u32],
-    lost: &mut Losses,
-    b: &mut Beat,
-    notes: &mut Notes,
-    chord: &mut Chord,
-) -> Step
-    requires { track * part_stride + part_stride ≤ length parts.old }
-    ensures { let before = walk_of bars.old rows.old members.old
-        points.old texts.old parts.old (tally_of progress lost.old) in
-        let after = walk_of bars.new rows.new members.new
-        points.new texts.new parts.new (tally_of result.progress lost.new) in
-        Reaches (file.bar_track (entering counting s.now) v bar track before)
-        s.now from after result.next }
+) -> Place
+    requires { track * part_stride + part_stride ≤ length page.old.parts.now }
+    ensures voices { Reaches (file.bar_track (entering P.counting s.now) v bar track (walked page.old))
+        s.now from (walked page.new) result }
+    ensures lent { SamePage page.old page.new }
 {
-    let count = voices_at(s, from, v);
-    let at = count.next;
-    voices(
-        s,
-        at,
-        v,
-        counting,
-        count.value,
-        bar,
-        track,
-        progress,
-        bars,
-        rows,
-        members,
-        points,
-        texts,
-        parts,
-        lost,
-        b,
-        notes,
-        chord,
-    )
+    let (n, at) = voices_at(s, from, v)?;
+    voices::<P>(page, scratch, s, Ok(at), v, n, bar, track)
 }
 
-fn bar_tracks(
+fn bar_tracks<P: Pass>(
+    page: &mut Page,
+    scratch: &mut BeatWords,
     s: &[u8],
     from: Place,
     v: u32,
-    counting: bool,
     tracks: u32,
     bar: u32,
-    progress: Progress,
-    bars: &mut [u32],
-    rows: &mut [u32],
-    members: &mut [u32],
-    points: &mut [u32],
-    texts: &mut [u32],
-    parts: &mut [u32],
-    lost: &mut Losses,
-    b: &mut Beat,
-    notes: &mut Notes,
-    chord: &mut Chord,
-) -> Step
-    requires { tracks * part_stride ≤ length parts.old }
-    ensures { let before = walk_of bars.old rows.old members.old
-        points.old texts.old parts.old (tally_of progress lost.old) in
-        let after = walk_of bars.new rows.new members.new
-        points.new texts.new parts.new (tally_of result.progress lost.new) in
-        Reaches (turns tracks 0 (file.bar_track (entering counting s.now) v bar) before)
-        s.now from after result.next }
+) -> Place
+    requires { tracks * part_stride ≤ length page.old.parts.now }
+    ensures tracks { Reaches (turns tracks 0 (file.bar_track (entering P.counting s.now) v bar) (walked page.old))
+        s.now from (walked page.new) result }
+    ensures lent { SamePage page.old page.new }
 {
-    let mut progress = progress;
     let mut at = from;
-    let mut i = 0;
-    while i < tracks {
-        let walked = bar_track(
-            s, at, v, counting, bar, i, progress, bars, rows, members, points, texts, parts, lost,
-            b, notes, chord,
-        );
-        progress = walked.progress;
-        at = walked.next;
-        let Place::At(_) = at else {
-            return Step { progress, next: at };
+    for track in 0..tracks {
+        at = bar_track::<P>(page, scratch, s, at, v, bar, track);
+        let Ok(_) = at else {
+            return at;
         };
-        i += 1;
     }
-    Step { progress, next: at }
+    at
 }
 
-fn one_bar(
+fn one_bar<P: Pass>(
+    page: &mut Page,
+    scratch: &mut BeatWords,
     s: &[u8],
     from: Place,
     v: u32,
-    counting: bool,
     tracks: u32,
     bar: u32,
-    progress: Progress,
-    bars: &mut [u32],
-    rows: &mut [u32],
-    members: &mut [u32],
-    points: &mut [u32],
-    texts: &mut [u32],
-    parts: &mut [u32],
-    lost: &mut Losses,
-    b: &mut Beat,
-    notes: &mut Notes,
-    chord: &mut Chord,
-) -> Step
-    requires { tracks * part_stride ≤ length parts.old }
-    ensures { let before = walk_of bars.old rows.old members.old
-        points.old texts.old parts.old (tally_of progress lost.old) in
-        let after = walk_of bars.new rows.new members.new
-        points.new texts.new parts.new (tally_of result.progress lost.new) in
-        Reaches (file.bar (entering counting s.now) v tracks bar before)
-        s.now from after result.next }
+) -> Place
+    requires { tracks * part_stride ≤ length page.old.parts.now }
+    ensures bar { Reaches (file.bar (entering P.counting s.now) v tracks bar (walked page.old))
+        s.now from (walked page.new) result }
+    ensures lent { SamePage page.old page.new }
 {
-    let key = into_bars::key_at(bars, bar as usize);
-    let progress = enter::enter_bar(progress, key);
-    bar_tracks(
-        s, from, v, counting, tracks, bar, progress, bars, rows, members, points, texts, parts,
-        lost, b, notes, chord,
-    )
+    page.enter_bar(bar);
+    bar_tracks::<P>(page, scratch, s, from, v, tracks, bar)
 }
 
-fn every_bar(
+fn every_bar<P: Pass>(
+    page: &mut Page,
+    scratch: &mut BeatWords,
     s: &[u8],
     from: Place,
     v: u32,
-    counting: bool,
     n: u32,
     tracks: u32,
-    progress: Progress,
-    bars: &mut [u32],
-    rows: &mut [u32],
-    members: &mut [u32],
-    points: &mut [u32],
-    texts: &mut [u32],
-    parts: &mut [u32],
-    lost: &mut Losses,
-    b: &mut Beat,
-    notes: &mut Notes,
-    chord: &mut Chord,
-) -> Step
-    requires { tracks * part_stride ≤ length parts.old }
-    ensures { let before = walk_of bars.old rows.old members.old
-        points.old texts.old parts.old (tally_of progress lost.old) in
-        let after = walk_of bars.new rows.new members.new
-        points.new texts.new parts.new (tally_of result.progress lost.new) in
-        Reaches (turns n 0 (file.bar (entering counting s.now) v tracks) before)
-        s.now from after result.next }
+) -> Place
+    requires { tracks * part_stride ≤ length page.old.parts.now }
+    ensures bars { Reaches (turns n 0 (file.bar (entering P.counting s.now) v tracks) (walked page.old))
+        s.now from (walked page.new) result }
+    ensures lent { SamePage page.old page.new }
 {
-    let mut progress = progress;
     let mut at = from;
-    let mut i = 0;
-    while i < n {
-        let walked = one_bar(
-            s, at, v, counting, tracks, i, progress, bars, rows, members, points, texts, parts,
-            lost, b, notes, chord,
-        );
-        progress = walked.progress;
-        at = walked.next;
-        let Place::At(_) = at else {
-            return Step { progress, next: at };
+    for bar in 0..n {
+        at = one_bar::<P>(page, scratch, s, at, v, tracks, bar);
+        let Ok(_) = at else {
+            return at;
         };
-        i += 1;
     }
-    Step { progress, next: at }
+    at
 }
 
 // Of so many tracks those that have all their words there. A file has no more tracks than the reader has words for.
-fn tracks_with_words(tracks: u32, parts: &[u32]) -> u32
-    ensures { result ≡ min tracks (room parts.now part_stride) }
+fn tracks_with_words(tracks: u32, page: &Page) -> u32
+    ensures { result ≡ min tracks (room page.now.parts.now part_stride) }
 {
-    let most = tables::room_of(parts, into_tracks::parts::PART_WORDS);
+    let most = tables::room_of(page.parts, into_tracks::parts::PART_WORDS);
     if most < (tracks as usize) {
         return most as u32;
     }
@@ -634,56 +335,25 @@ fn tracks_with_words(tracks: u32, parts: &[u32]) -> u32
 }
 
 // All bars, each with its tracks, voices and beats. The words of a beat, of its notes and of a chord serve one beat after another.
-// `parts` has the words of every track.
-pub fn all_bars(
+// The page has the words of every track.
+pub fn all_bars<P: Pass>(
+    page: &mut Page,
     s: &[u8],
     from: Place,
     v: u32,
-    counting: bool,
     n: u32,
     tracks: u32,
-    tally: Tally,
-    bars: &mut [u32],
-    rows: &mut [u32],
-    members: &mut [u32],
-    points: &mut [u32],
-    texts: &mut [u32],
-    parts: &mut [u32],
-) -> Walked
-    ensures { let held = min tracks (room parts.old part_stride) in
-        let before = walk_of bars.old rows.old members.old
-        points.old texts.old parts.old tally in
-        let after = walk_of bars.new rows.new members.new
-        points.new texts.new parts.new result.tally in
-        Reaches (turns n 0 (file.bar (entering counting s.now) v held) before)
-        s.now from after result.next }
+) -> Place
+    ensures bars { let held = min tracks (room page.old.parts.now part_stride) in
+        Reaches (turns n 0 (file.bar (entering P.counting s.now) v held) (walked page.old))
+        s.now from (walked page.new) result }
+    ensures lent { SamePage page.old page.new }
 {
-    let held = tracks_with_words(tracks, parts);
-    let mut lost = tally.losses;
-    let mut b = [0usize; BEAT_WORDS];
-    let mut notes = [0usize; 144];
-    let mut chord = [0u32; 7];
-    let walked = every_bar(
-        s,
-        from,
-        v,
-        counting,
-        n,
-        held,
-        progress_of(tally),
-        bars,
-        rows,
-        members,
-        points,
-        texts,
-        parts,
-        &mut lost,
-        &mut b,
-        &mut notes,
-        &mut chord,
-    );
-    let progress = walked.progress;
-    let next = walked.next;
-    let tally = tally_of(progress, lost);
-    Walked { tally, next }
+    let held = tracks_with_words(tracks, page);
+    let mut scratch = BeatWords {
+        beat: [0usize; BEAT_WORDS],
+        notes: [0usize; 144],
+        chord: [0u32; 7],
+    };
+    every_bar::<P>(page, &mut scratch, s, from, v, n, held)
 }

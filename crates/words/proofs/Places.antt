@@ -2,9 +2,8 @@
 use Prim.Native.Nat.{ℕ}
 use mathlib.Core.Path.{◌≡◌}
 use mathlib.Core.List.{List}
-use Rattle.format.specs.declared.Place.{Place}
 use Rattle.format.specs.Prog.{ret}
-use Rattle.format.specs.Place.{Reaches}
+use Rattle.format.specs.Place.{Place, Reaches}
 use Rattle.format.proofs.Rules.{done}
 
 -- the value is what the program returns

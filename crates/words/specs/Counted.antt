@@ -1,9 +1,7 @@
 -- A pass that only counts: of each beat the rows and members that it makes and the rooms that it needs. No table is changed, and
 -- nothing is remembered of a track but what it is played on.
-use Rattle.std.specs.Prelude.{ℕ, ◌+◌, ◌*◌, Bool, List, [], ◌∷◌, eqb}
+use Rattle.std.specs.Prelude.{ℕ, ◌+◌, ◌*◌, Bool, List, [], ◌∷◌, eqb, None, Option, Some}
 use Rattle.format.specs.Text.{pick}
-use Rattle.note.specs.declared.marks.GraceNote.{GraceNote}
-use Rattle.note.specs.declared.marks.GraceNote.TheVariants.{NoGrace, Before}
 use Rattle.note.specs.Note.{NoteIs}
 use Rattle.beat.specs.Beat.{BeatIs}
 use Rattle.score.specs.declared.KeptCounts.{KeptCounts}
@@ -12,6 +10,7 @@ use Rattle.score.specs.File.{Adding}
 use Rattle.score.specs.Sounding.{sounds_on}
 use Rattle.score.specs.Page.{Walk, bend_rooms, has_text}
 use Rattle.words.specs.Words.{Words, part_stride, board_from, word_plus}
+use Rattle.note.specs.declared.marks.Grace.{Grace}
 
 -- ---- how many notes sound
 
@@ -19,9 +18,9 @@ use Rattle.words.specs.Words.{Words, part_stride, board_from, word_plus}
 abbrev pub one_note : NoteIs → ℕ
 one_note n = 1
 
-abbrev pub one_grace : GraceNote → ℕ
-one_grace NoGrace = 0
-one_grace (Before g) = 1
+abbrev pub one_grace : Option Grace → ℕ
+one_grace None = 0
+one_grace (Some g) = 1
 
 abbrev pub grace_of : NoteIs → ℕ
 grace_of n = one_grace n.read.effects.grace

@@ -1,6 +1,5 @@
 -- The states that headers and tracks are added to, of a reader's slices and values.
-use Rattle.std.specs.Prelude.{ℕ, false, List, []}
-use Rattle.model.specs.declared.Tempo.TheVariants.{NoTempo}
+use Rattle.std.specs.Prelude.{ℕ, false, List, [], None}
 use Rattle.model.specs.Answers.{no_lyrics}
 use Rattle.song.specs.Info.{no_info}
 use Rattle.header.specs.Header.{no_counts}
@@ -23,7 +22,7 @@ directing numbers =
       info = no_info;
       swing = false;
       lyrics = no_lyrics;
-      tempo = NoTempo;
+      tempo = None;
       programs = [];
       directions = numbers;
       counts = no_counts;

@@ -1,25 +1,19 @@
 -- The tables as words: those of a caller's slices, and a slice of the reader's own for what is remembered of each track. A word that is
 -- missing is 0, and a store past the end does nothing.
-use Rattle.std.specs.Prelude.{ℕ, zero, suc, ◌+◌, ◌*◌, ◌%◌, List, [], ◌∷◌, ◌++◌, map, Bool, true, false, ◌&&◌, get_or, set, eqb, leb}
+use Rattle.std.specs.Prelude.{ℕ, zero, suc, ◌+◌, ◌*◌, ◌%◌, List, [], ◌∷◌, ◌++◌, map, Bool, true, false, ◌&&◌, get_or, set, eqb, leb, None, Option, Some}
 use Rattle.std.proofs.lemmas.List.Edits.{sets}
 use Rattle.std.proofs.Math.Seq.{slice}
 use Rattle.format.specs.Text.{pick}
 use Rattle.model.specs.declared.Member.{Member}
 use Rattle.model.specs.declared.Key.{Key}
 use Rattle.model.specs.declared.Technique.TheVariants.{PullOff}
-use Rattle.model.specs.declared.Tempo.{Tempo}
 use Rattle.model.specs.declared.Text.{Text}
 use Rattle.model.specs.Kinds.{ending_place_word, ending_place_of, key_of, tempo_word, technique_word, flag_word, flag_of, string_word, ottava_word, ottava_of}
 use Rattle.entries.specs.Words.{bar_stride, bar_words, place_at, tempo_at, track_stride, track_words, row_stride, row_words, technique_at, ottava_end_at, member_stride, member_words, tie_start_at, point_stride, point_words, text_stride, text_words}
 use Rattle.score.specs.declared.Fretboard.{Fretboard}
 use Rattle.score.specs.declared.Hammer.{Hammer}
-use Rattle.score.specs.declared.Hammer.TheVariants.{NoHammer, Waits}
-use Rattle.score.specs.declared.LastFret.{LastFret}
-use Rattle.score.specs.declared.LastFret.TheVariants.{NoFret, Fret}
 use Rattle.score.specs.declared.OttavaRun.{OttavaRun}
-use Rattle.score.specs.declared.OttavaRun.TheVariants.{NoRun, Over}
 use Rattle.score.specs.declared.Part.{Part}
-use Rattle.score.specs.declared.Remembered.{Remembered}
 use Rattle.score.specs.declared.Voice.{Voice}
 use Rattle.score.specs.Bars.{followed}
 use Rattle.score.specs.Page as Page
@@ -38,34 +32,34 @@ abbrev pub voice_place : ℕ → ℕ
 voice_place zero = 12
 voice_place (suc n) = 27
 
-abbrev pub fret_word : LastFret → ℕ
-fret_word NoFret = 0
-fret_word (Fret f) = f + 1
+abbrev pub fret_word : Option ℕ → ℕ
+fret_word None = 0
+fret_word (Some f) = f + 1
 
-unfoldable pub fret_of : ℕ → LastFret
-fret_of zero = NoFret
-fret_of (suc f) = Fret (f % 256)
+unfoldable pub fret_of : ℕ → Option ℕ
+fret_of zero = None
+fret_of (suc f) = Some (f % 256)
 
-abbrev pub recalled : ℕ → Remembered
-recalled word = record { fret = fret_of word }
+abbrev pub recalled : ℕ → Option ℕ
+recalled word = fret_of word
 
 -- a flag for whether there is one; its row; its key, or its kind
-abbrev pub hammer_words : Hammer → List ℕ
-hammer_words NoHammer = 0 ∷ 0 ∷ 0 ∷ []
-hammer_words (Waits n key) = 1 ∷ n ∷ key ∷ []
+abbrev pub hammer_words : Option Hammer → List ℕ
+hammer_words None = 0 ∷ 0 ∷ 0 ∷ []
+hammer_words (Some w) = 1 ∷ w.row ∷ w.key ∷ []
 
-unfoldable pub hammer_of : (flag n key : ℕ) → Hammer
-hammer_of flag n key = pick (flag_of flag) (Waits n (key % 256)) NoHammer
+unfoldable pub hammer_of : (flag n key : ℕ) → Option Hammer
+hammer_of flag n key = pick (flag_of flag) (Some (record { row = n; key = key % 256 })) None
 
-abbrev pub run_words : OttavaRun → List ℕ
-run_words NoRun = 0 ∷ 0 ∷ 0 ∷ []
-run_words (Over n kind) = 1 ∷ n ∷ ottava_word kind ∷ []
+abbrev pub run_words : Option OttavaRun → List ℕ
+run_words None = 0 ∷ 0 ∷ 0 ∷ []
+run_words (Some o) = 1 ∷ o.row ∷ ottava_word o.kind ∷ []
 
-unfoldable pub run_of : (flag n kind : ℕ) → OttavaRun
-run_of flag n kind = pick (flag_of flag) (Over n (ottava_of kind)) NoRun
+unfoldable pub run_of : (flag n kind : ℕ) → Option OttavaRun
+run_of flag n kind = pick (flag_of flag) (Some (record { row = n; kind = ottava_of kind })) None
 
 unfoldable pub voice_words : Voice → List ℕ
-voice_words v = map (λ x. fret_word x.fret) v.frets ++ hammer_words v.hammer ++ (v.last.first ∷ v.last.count ∷ []) ++ run_words v.run
+voice_words v = map fret_word v.frets ++ hammer_words v.hammer ++ (v.last.first ∷ v.last.count ∷ []) ++ run_words v.run
 
 unfoldable pub board_words : Fretboard → List ℕ
 board_words b = b.strings.count ∷ b.strings.tunings ++ (b.capo ∷ flag_word b.percussion ∷ flag_word b.tablature ∷ [])
@@ -88,7 +82,7 @@ board_from at t =
       tablature = flag_of (get_or t (at + 10) 0);
     }
 
-abbrev pub fret_from : ℕ → List ℕ → Remembered
+abbrev pub fret_from : ℕ → List ℕ → Option ℕ
 fret_from at t = recalled (get_or t at 0)
 
 unfoldable pub voice_from : ℕ → List ℕ → Voice
@@ -145,7 +139,7 @@ key_words i t = key_of (get_or t (i * bar_stride + 2) 0) (get_or t (i * bar_stri
 abbrev pub first_word : ℕ → ℕ → ℕ
 first_word old new = pick (eqb old 0) new old
 
-unfoldable pub tempo_words : ℕ → Tempo → List ℕ → List ℕ
+unfoldable pub tempo_words : ℕ → Option ℕ → List ℕ → List ℕ
 tempo_words i x t = set t (i * bar_stride + tempo_at) (first_word (get_or t (i * bar_stride + tempo_at) 0) (tempo_word x))
 
 -- string 0 is off tablature

@@ -1,36 +1,27 @@
 -- A number of four bytes, then judged; it stands at the place from which it is read.
-use borrow.Author.Rules.{rules}
 use Rattle.format.specs.Count.{as_word}
-use Rattle.format.proofs.Rules.{reading}
+use Rattle.format.proofs.Rules.{returning, read_exit}
 use Rattle.format.proofs.Leaves.{over_negative, over_limit, not_over, count_read, count_refused, count_cut}
 use Rattle.bin.proofs.count_at.Goals as goal
 
-pub returns-in_default : goal.returns-in_default
-unfolding as_word
-returns-in_default c =
-    search reading
+pub returns-in_err-offset : goal.returns-in_err-offset
+returns-in_err-offset c =
+    search returning
 
-pub returns-in_default-at : goal.returns-in_default-at
-unfolding as_word
-returns-in_default-at c =
-    count_cut _ c.in-At.is c.u32_at-read.ensures.gives (search rules) c.in_default-at.is
+pub returns-in_err-v : goal.returns-in_err-v
+returns-in_err-v c =
+    read_exit c.branch-v.ensures c.in_err-v.is c.from_residual-in_err-v.ensures (count_cut _ c.in_ok-offset.was c.in_err-v.ensures)
 
 pub returns-then-v-ge-NEGATIVE : goal.returns-then-v-ge-NEGATIVE
 unfolding as_word
 returns-then-v-ge-NEGATIVE c =
-    count_refused _ c.in-At.is c.u32_at-read.ensures.gives (search rules)
-    c.in-At-at.is (over_negative _ _ c.if-v-ge-NEGATIVE.true)
+    count_refused _ c.in_ok-offset.was c.in_ok-v.ensures (over_negative _ _ c.if-v-ge-NEGATIVE.true)
 
-pub returns-then-v-limit_of : goal.returns-then-v-limit_of
+pub returns-then-limit_of-v : goal.returns-then-limit_of-v
 unfolding as_word
-returns-then-v-limit_of c =
-    let h = rw c.limit_of.ensures at c.if-v-limit_of.true in
-    count_read _ c.in-At.is c.u32_at-read.ensures.gives (search rules)
-    c.in-At-at.is (not_over _ _ c.if-v-ge-NEGATIVE.false h)
+returns-then-limit_of-v c =
+    let h = rw c.limit_of.ensures at c.if-limit_of-v.true in count_refused _ c.in_ok-offset.was c.in_ok-v.ensures (over_limit _ _ h)
 
 pub returns : goal.returns
-unfolding as_word
 returns c =
-    let h = rw c.limit_of.ensures at c.if-v-limit_of.false in
-    count_refused _ c.in-At.is c.u32_at-read.ensures.gives (search rules)
-    c.in-At-at.is (over_limit _ _ h)
+    let h = rw c.limit_of.ensures at c.if-limit_of-v.false in count_read _ c.in_ok-offset.was c.in_ok-v.ensures (not_over _ _ c.if-v-ge-NEGATIVE.false h)

@@ -1,11 +1,11 @@
 -- The byte, where it stands.
-use Rattle.format.proofs.Rules.{reading}
+use Rattle.format.proofs.Rules.{returning}
 use Rattle.header.proofs.byte_where.Goals as goal
 
 pub returns-then-flags-mask-eq0 : goal.returns-then-flags-mask-eq0
 returns-then-flags-mask-eq0 c =
-    search reading
+    search returning
 
 pub returns : goal.returns
 returns c =
-    search reading
+    search returning

@@ -8,4 +8,4 @@ pub returns : goal.returns
 unfolding building_losses
 returns c =
     λ s. let v = c.args.v in
-    rw (c.lose_if.ensures, c.artificial_harmonic.ensures, c.grace_losses.ensures s v, c.member_losses.ensures s v) (simp (reports_append, chord_rest))
+    rw (c.lose_if.ensures, c.is_empty.ensures, c.artificial_harmonic.ensures, c.grace_losses.ensures s v, c.member_losses.ensures s v) (simp (reports_append, chord_rest))

@@ -1,12 +1,10 @@
 -- String by string.
-use Prim.Native.Nat.{◌<◌, ◌%◌}
+use Prim.Native.Nat.{◌%◌}
 use mathlib.Core.Path.{◌≡◌}
 use Rattle.note.specs.Words.{over_strings}
 use Rattle.into_losses.proofs.Counting.{one_note}
 use Rattle.into_losses.proofs.notes_losses.Given as goal
 
-abbrev pub invariant-loop-left : goal.invariant-loop-left
-invariant-loop-left l = (l.left < 128) × (over_strings (l.strings % 128) (one_note l.v l.notes) l.initial.losses ≡ over_strings l.left (one_note l.v l.notes) l.losses)
-
-abbrev pub decreases-loop-left : goal.decreases-loop-left
-decreases-loop-left l = l.left
+abbrev pub invariant-loop-string : goal.invariant-loop-string
+invariant-loop-string l =
+    over_strings (l.strings % 128) (one_note l.v l.notes) l.initial.losses ≡ over_strings l.string-iterator.left (one_note l.v l.notes) l.losses

@@ -1,8 +1,24 @@
 -- One sign after another.
-use Rattle.words.proofs.Reports.{reports_none, reports_append}
-use Rattle.into_losses.proofs.Counting.{sign_next}
+use native.Mathlib.Omega.{arith}
+use mathlib.Core.Path.{sym, ◌∙◌}
+use Rattle.model.specs.declared.Loss.TheVariants.{UnsupportedDirection}
+use Rattle.score.specs.Bars.{other_signs}
+use Rattle.into_losses.proofs.Counting.{number_small, numbers_left, signs_next, signs_end}
 use Rattle.into_losses.proofs.sign_losses.Goals as goal
+
+pub bounds-directions-n : goal.bounds-directions-n
+bounds-directions-n c =
+    number_small other_signs c.loop-n.n-index (omega arith) c.loop-n.invariant.0
+
+pub loop-n-preserved : goal.loop-n-preserved
+loop-n-preserved c =
+    let l = c.loop-n in (
+      numbers_left other_signs l.n-index (omega arith) l.invariant.0,
+      rw c.lose_if.ensures
+          (sym (signs_next other_signs l.n-index (omega arith) c.args.directions l.losses UnsupportedDirection) ∙ l.invariant.1),
+    )
 
 pub returns : goal.returns
 returns c =
-    rw (c.report_if.ensures, c.report_if-losses-8.ensures, c.report_if-losses-7.ensures, c.report_if-losses-6.ensures, c.report_if-losses-5.ensures, c.report_if-losses-4.ensures, c.report_if-losses-3.ensures, c.report_if-losses-2.ensures, c.report_if-losses.ensures) (simp (sign_next, reports_append, reports_none))
+    let l = c.loop-n in
+    sym (signs_end other_signs l.n-index c.args.directions l.losses UnsupportedDirection (omega arith)) ∙ l.invariant.1

@@ -1,10 +1,7 @@
-use Rattle.tables.proofs.Starts.{entry_there, entry_cut}
+-- The whole entry, or none.
+use Rattle.tables.proofs.Starts.{entry_got}
 use Rattle.tables.proofs.entry_of.Goals as goal
-
-pub returns-then-stride-t : goal.returns-then-stride-t
-returns-then-stride-t c =
-    entry_there _ _ _ _ c.start_of-at.ensures c.if-stride-t.true
 
 pub returns : goal.returns
 returns c =
-    entry_cut _ _ _ _ c.start_of-at.ensures c.if-stride-t.false
+    entry_got c.args.t.now c.args.i c.args.stride _ c.start_of-at.ensures _ _ _ c.get.ensures.lookup c.unwrap_or.ensures

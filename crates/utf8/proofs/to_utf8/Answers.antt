@@ -1,15 +1,17 @@
--- By the two tests of the range.
-use Rattle.utf8.proofs.Results.{start_after_end, end_past_input, within}
+-- By the range.
+use mathlib.Core.Path.{◌≡◌}
+use borrow.Author.Rules.{rules}
+use Rattle.std.specs.Prelude.{Err}
+use Rattle.utf8.proofs.Results.{there, not_there, part_none, part_some}
 use Rattle.utf8.proofs.to_utf8.Goals as goal
 
-pub returns-then-end-start : goal.returns-then-end-start
-returns-then-end-start c =
-    start_after_end _ _ _ c.if-end-start.true
-
-pub returns-then-data-end : goal.returns-then-data-end
-returns-then-data-end c =
-    end_past_input _ _ _ c.if-end-start.false c.if-data-end.true
+pub returns-in_err-text : goal.returns-in_err-text
+returns-in_err-text c =
+    let n = not_there _ _ _ c.in_err-text.ensures.value in
+    let e : c.from_residual.result ≡ Err c.in_err-text.field-0.0 = search rules in
+    rw (e, n.1) (part_none _ _ _ c.get.ensures.lookup n.0)
 
 pub returns : goal.returns
 returns c =
-    let a = c.args in rw (within a.«data».now a.range a.out.now c.if-end-start.false c.if-data-end.false) c.put.ensures
+    let a = c.args in
+    rw (part_some a.«data».now a.range a.out.now c.get.ensures.lookup _ (there _ _ _ c.in_ok-text.ensures.value)) c.put.ensures

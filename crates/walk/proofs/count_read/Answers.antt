@@ -1,11 +1,12 @@
 -- A beat is read, then counted.
-use Rattle.walk.proofs.Walks.{counts_beat, counts_none}
+use Rattle.format.proofs.Rules.{then, went_on, place_exit, place_broke, at_first}
+use Rattle.words.proofs.Places.{done_as}
 use Rattle.walk.proofs.count_read.Goals as goal
 
-pub returns-in_default : goal.returns-in_default
-returns-in_default c =
-    counts_none _ _ c.read_beat-past.ensures c.in_default.is
+pub returns-in_err-past-clause-beat : goal.returns-in_err-past-clause-beat
+returns-in_err-past-clause-beat c =
+    place_exit c.branch-past.ensures c.in_err-past.is c.from_residual.ensures (at_first _ (place_broke c.read_beat.ensures c.branch-past.ensures c.in_err-past.is))
 
-pub returns : goal.returns
-returns c =
-    counts_beat _ _ c.read_beat-past.ensures (c.count_beat-progress.ensures c.args.v)
+pub returns-clause-beat : goal.returns-clause-beat
+returns-clause-beat c =
+    then _ (went_on c.read_beat.ensures c.branch-past.ensures c.in_ok-past.is) (done_as (c.count_beat.ensures.beat c.args.v))

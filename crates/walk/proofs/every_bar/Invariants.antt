@@ -1,17 +1,14 @@
 -- Bar by bar.
-use Prim.Native.Nat.{◌-◌, ◌≤◌}
-use mathlib.Core.Path.{◌≡◌}
-use lib.ListN.{length}
+use Prim.Native.Nat.{◌-◌}
 use Rattle.format.specs.Prog.{turns}
 use Rattle.format.specs.Place.{Leads}
 use Rattle.score.specs.File.{bar}
-use Rattle.words.specs.Meant.{walk_of}
-use Rattle.enter.specs.Steps.{tally_of}
+use Rattle.enter.specs.Pages.{walked, SamePage}
 use Rattle.walk.specs.Entering.{entering}
 use Rattle.walk.proofs.every_bar.Given as goal
 
-abbrev pub invariant-loop-i : goal.invariant-loop-i
-invariant-loop-i l = (l.i ≤ l.n) × (length l.bars ≡ length l.initial.bars) × (length l.rows ≡ length l.initial.rows) × (length l.members ≡ length l.initial.members) × (length l.points ≡ length l.initial.points) × (length l.texts ≡ length l.initial.texts) × (length l.parts ≡ length l.initial.parts) × Leads (turns l.n 0 (bar (entering l.counting l.s) l.v l.tracks) (walk_of l.initial.bars l.initial.rows l.initial.members l.initial.points l.initial.texts l.initial.parts (tally_of l.initial.progress l.initial.lost))) l.s l.initial.at (turns (l.n - l.i) l.i (bar (entering l.counting l.s) l.v l.tracks) (walk_of l.bars l.rows l.members l.points l.texts l.parts (tally_of l.progress l.lost))) l.at
-
-abbrev pub decreases-loop-i : goal.decreases-loop-i
-decreases-loop-i l = l.n - l.i
+abbrev pub invariant-loop-bar : goal.invariant-loop-bar
+invariant-loop-bar g l =
+    SamePage l.initial.page l.page ×
+    Leads (turns l.n 0 (bar (entering g.P.Pass.counting l.s) l.v l.tracks) (walked l.initial.page)) l.s l.initial.at
+    (turns (l.n - l.bar) l.bar (bar (entering g.P.Pass.counting l.s) l.v l.tracks) (walked l.page)) l.at

@@ -1,14 +1,24 @@
 -- By the version.
-use Rattle.format.proofs.Rules.{reading}
+use Rattle.format.proofs.Rules.{returning}
 use Rattle.score.specs.File.{voices}
 use Rattle.walk.proofs.voices_at.Goals as goal
 
-pub returns-then-v-ge500 : goal.returns-then-v-ge500
+pub returns-in_err-from : goal.returns-in_err-from
 unfolding voices
-returns-then-v-ge500 c =
-    search reading
+returns-in_err-from c =
+    search returning depth 8 fits 4000
+
+pub returns-then-v-lt500 : goal.returns-then-v-lt500
+unfolding voices
+returns-then-v-lt500 c =
+    search returning depth 8 fits 4000
+
+pub returns-in_err-at : goal.returns-in_err-at
+unfolding voices
+returns-in_err-at c =
+    search returning depth 8 fits 4000
 
 pub returns : goal.returns
 unfolding voices
 returns c =
-    search reading
+    search returning depth 8 fits 4000

@@ -8,7 +8,7 @@ use Rattle.beat.proofs.effects.strokes_at.Goals as goal
 pub put_if-requires : goal.put_if-requires
 unfolding has
 put_if-requires c =
-    (omega (arith, (c.brush_at-at.ensures 0).near), search rules)
+    (search rules, (omega (arith, (c.brush_at-at.ensures 0).near), search rules))
 
 pub returns : goal.returns
 unfolding has

@@ -1,19 +1,20 @@
--- By the two tests.
-use borrow.Author.Tests.{eq-eqb, ne_eqb}
+-- Case by case.
+use borrow.Author.Rules.{rules}
+use borrow.Author.Tests.{ne_eqb}
 use Rattle.beat.specs.Effects.{stroke_of}
 use Rattle.beat.proofs.field.stroke_of.Goals as goal
 
-pub returns-then-b-eq1 : goal.returns-then-b-eq1
+pub returns-in-1 : goal.returns-in-1
 unfolding stroke_of
-returns-then-b-eq1 c =
-    simp (eq-eqb _ _ c.if-b-eq1.true)
+returns-in-1 c =
+    rw c.in-1.is
 
-pub returns-then-b-eq2 : goal.returns-then-b-eq2
+pub returns-in-2 : goal.returns-in-2
 unfolding stroke_of
-returns-then-b-eq2 c =
-    simp (ne_eqb _ _ c.if-b-eq1.false, eq-eqb _ _ c.if-b-eq2.true)
+returns-in-2 c =
+    rw c.in-2.is
 
-pub returns : goal.returns
+pub returns-in_default : goal.returns-in_default
 unfolding stroke_of
-returns c =
-    simp (ne_eqb _ _ c.if-b-eq1.false, ne_eqb _ _ c.if-b-eq2.false)
+returns-in_default c =
+    simp (ne_eqb c.args.b 1 (search rules), ne_eqb c.args.b 2 (search rules))

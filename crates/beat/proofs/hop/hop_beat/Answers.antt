@@ -9,24 +9,24 @@ returns-in_default c =
 
 pub returns-then-s-at : goal.returns-then-s-at
 returns-then-s-at c =
-    hop_short _ c.in-At.is (omega arith)
+    hop_short _ c.in-Ok.is (omega arith)
 
 pub returns-then-s-at-lt-PLAIN_BEAT : goal.returns-then-s-at-lt-PLAIN_BEAT
 returns-then-s-at-lt-PLAIN_BEAT c =
-    hop_short _ c.in-At.is (omega arith)
+    hop_short _ c.in-Ok.is (omega arith)
 
 pub returns-then-s-at-ne0 : goal.returns-then-s-at-ne0
 returns-then-s-at-ne0 c =
-    hop_marked _ c.in-At.is (omega arith) c.if-s-at-ne0.true
+    hop_marked _ c.in-Ok.is (omega arith) c.if-s-at-ne0.true
 
-pub returns-in_default-hop : goal.returns-in_default-hop
-returns-in_default-hop c =
-    hop_notes_not _ c.in-At.is (omega arith) c.if-s-at-ne0.false c.hop_notes-hop.ensures c.in_default-hop.is
+pub returns-in_err-past : goal.returns-in_err-past
+returns-in_err-past c =
+    rw c.from_residual.ensures (hop_notes_not _ c.in-Ok.is (omega arith) c.if-s-at-ne0.false c.hop_notes.ensures c.in_err-past.was)
 
-pub tail_of-tail-requires : goal.tail_of-tail-requires
-tail_of-tail-requires c =
-    omega (arith, (c.hop_notes-hop.ensures.to _ c.in-To.is).near)
+pub tail_of-requires : goal.tail_of-requires
+tail_of-requires c =
+    omega (arith, (c.hop_notes.ensures.to _ c.in_ok-past.was).near)
 
 pub returns : goal.returns
 returns c =
-    hop_to _ c.in-At.at (omega arith) c.if-s-at-ne0.false (c.hop_notes-hop.ensures.to _ c.in-To.is) c.tail_of-tail.ensures.reads c.tail_of-tail.ensures.near c.in-At.is
+    hop_to _ c.in-Ok.at (omega arith) c.if-s-at-ne0.false (c.hop_notes.ensures.to _ c.in_ok-past.was) c.tail_of.ensures.reads c.tail_of.ensures.near c.in-Ok.is

@@ -1,12 +1,9 @@
--- `to_i16` reads the bits as signed, by the law for every width.
+-- By the law for every width.
+use borrow.Author.Rules.{rules}
 use mir.Syntax.{w16}
-use Rattle.bin.proofs.Complement.{read_signed, read_flipped}
+use Rattle.bin.proofs.Complement.{read_signed}
 use Rattle.bin.proofs.signed.to_i16.Goals as goal
-
-pub returns-then-v-lt32768 : goal.returns-then-v-lt32768
-returns-then-v-lt32768 c =
-    read_signed w16 _
 
 pub returns : goal.returns
 returns c =
-    read_flipped w16 _ c.ranges.v
+    search (rules, read_signed w16 c.args.v)

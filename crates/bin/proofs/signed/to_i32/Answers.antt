@@ -1,12 +1,9 @@
--- `to_i32` reads the bits as signed, by the law for every width.
+-- By the law for every width.
+use borrow.Author.Rules.{rules}
 use mir.Syntax.{w32}
-use Rattle.bin.proofs.Complement.{read_signed, read_flipped}
+use Rattle.bin.proofs.Complement.{read_signed}
 use Rattle.bin.proofs.signed.to_i32.Goals as goal
-
-pub returns-then-v-lt2147483648 : goal.returns-then-v-lt2147483648
-returns-then-v-lt2147483648 c =
-    read_signed w32 _
 
 pub returns : goal.returns
 returns c =
-    read_flipped w32 _ c.ranges.v
+    search (rules, read_signed w32 c.args.v)

@@ -10,8 +10,8 @@ returns-then-s-i-eq0 c =
 
 pub loop-i-preserved : goal.loop-i-preserved
 loop-i-preserved c =
-    (search rules, search rules, search (cut_on, arith))
+    search (cut_on, arith)
 
 pub returns : goal.returns
 returns c =
-    (search rules, search rules, search (cut_out, arith))
+    let h = cut_out _ _ _ _ c.loop-i.invariant (omega arith) c.loop-i-test.false in (search rules, search rules, omega (arith, h))

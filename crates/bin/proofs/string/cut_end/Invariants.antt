@@ -1,12 +1,9 @@
 -- What is left to the first zero is as long as it was from the start.
-use Prim.Native.Nat.{◌+◌, ◌-◌, ◌≤◌}
+use Prim.Native.Nat.{◌+◌}
 use mathlib.Core.Path.{◌≡◌}
 use lib.Seq.{slice}
 use Rattle.format.specs.Text.{cut_len}
 use Rattle.bin.proofs.string.cut_end.Given as goal
 
 abbrev pub invariant-loop-i : goal.invariant-loop-i
-invariant-loop-i l = (l.from ≤ l.i) × (l.i ≤ l.end) × (l.i + cut_len (slice l.i l.end l.s) ≡ l.from + cut_len (slice l.from l.end l.s))
-
-abbrev pub decreases-loop-i : goal.decreases-loop-i
-decreases-loop-i l = l.end - l.i
+invariant-loop-i l = l.i + cut_len (slice l.i l.end l.s) ≡ l.from + cut_len (slice l.from l.end l.s)

@@ -1,9 +1,14 @@
 -- One field after another.
-use Rattle.format.proofs.Rules.{reading}
+use Rattle.format.proofs.Rules.{returning}
 use Rattle.format.specs.Fields.{int_byte_string_unused_past}
 use Rattle.bin.proofs.string.int_byte_string_unused_past.Goals as goal
+
+pub returns-in_err-n : goal.returns-in_err-n
+unfolding int_byte_string_unused_past
+returns-in_err-n c =
+    search returning
 
 pub returns : goal.returns
 unfolding int_byte_string_unused_past
 returns c =
-    search reading
+    search returning depth 8

@@ -9,10 +9,10 @@ pub returns-then-not-is_blank : goal.returns-then-not-is_blank
 returns-then-not-is_blank c =
     (search rules, search rules, search (keep_found, said, arith))
 
-pub loop-e-preserved : goal.loop-e-preserved
-loop-e-preserved c =
-    (search rules, search rules, search (keep_on, said, arith))
+pub loop-last-preserved : goal.loop-last-preserved
+loop-last-preserved c =
+    (search rules, search (keep_on, said, arith))
 
 pub returns : goal.returns
 returns c =
-    (search rules, search rules, search (keep_out, arith))
+    let h = keep_out _ _ _ _ c.loop-last.invariant.1 (omega arith) c.loop-last-test.false in (search rules, search rules, omega (arith, h))

@@ -11,8 +11,8 @@ returns-then-not-is_blank c =
 
 pub loop-i-preserved : goal.loop-i-preserved
 loop-i-preserved c =
-    (search rules, search rules, search (lead_on, said, arith))
+    search (lead_on, said, arith)
 
 pub returns : goal.returns
 returns c =
-    (search rules, search rules, search (lead_out, arith))
+    let h = lead_out _ _ _ _ c.loop-i.invariant (omega arith) c.loop-i-test.false in (search rules, search rules, omega (arith, h))

@@ -7,6 +7,5 @@ pub returns : goal.returns
 returns c =
     λ s. let a = c.args in
     let n = note_in s a.v a.notes.now (start a.string) in
-    let t = c.with_text.ensures s a.v in
-    let e = rw c.bend-bend.ensures at (c.with_bend-p.ensures s) in
-    played_in_turn n _ _ _ _ _ t e (c.with_hammer.ensures s a.v) (c.with_slide.ensures s)
+    let bent = rw c.bend.ensures at (c.with_bend-p.ensures s) in
+    played_in_turn n _ _ _ _ _ (c.with_text-p.ensures s a.v) bent (c.with_hammer-p.ensures s a.v) (c.with_slide.ensures s)

@@ -10,12 +10,12 @@ returns c =
     let v = c.voicing_of-voiced.ensures in
     rw (
       c.value_of.ensures s a.v a.notes.now,
-      c.range-range.ensures,
-      c.chord-name.ensures,
-      c.ottava-ottava.ensures,
-      c.head_of-head.ensures s a.v,
-      c.brush-arpeggio.ensures,
-      c.level_of-after.ensures s a.v,
+      c.range.ensures,
+      c.chord.ensures,
+      c.ottava.ensures,
+      c.head_of.ensures s a.v,
+      c.brush.ensures,
+      c.level_of.ensures s a.v,
       c.listed.ensures,
       v.marks s,
       marks_counted,

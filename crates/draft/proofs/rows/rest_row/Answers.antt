@@ -9,7 +9,7 @@ unfolding rest_row points_at finish
 returns c =
     λ s v w. rw (
       c.value_of.ensures s v w,
-      c.range-range.ensures,
-      c.chord-chord.ensures,
-      c.ottava-ottava.ensures,
+      c.range.ensures,
+      c.chord.ensures,
+      c.ottava.ensures,
     )

@@ -19,20 +19,19 @@ use Rattle.draft.proofs.Quiet.{not_played, accents_only, neither}
 use Rattle.draft.proofs.voicing.voiced_by.Goals as goal
 use Rattle.draft.proofs.voicing.voiced_by.Goals.{then-effects-harmonic, else-effects-harmonic}
 
-pub loop-i-init : goal.loop-i-init
+pub loop-struck-init : goal.loop-struck-init
 unfolding chord_in points_at
-loop-i-init c =
+loop-struck-init c =
     let a = c.args in (
-      search rules,
       λ s. search rules,
       λ s. rw c.none_added-m.ensures
           (marks_packed (effects_in a.v a.b.now) (chord_in s a.v a.notes.now a.chord.now)),
     )
 
-pub loop-i-preserved : goal.loop-i-preserved
+pub loop-struck-preserved : goal.loop-struck-preserved
 unfolding chord_in points_at
-loop-i-preserved c =
-    let l = c.loop-i in
+loop-struck-preserved c =
+    let l = c.loop-struck in
     let x = c.beat_harmonic-harmonic in
     let y = c.effects in
     let a = c.args in
@@ -50,16 +49,15 @@ loop-i-preserved c =
             rw (w.m-is, accents_only a.v a.notes.now bare e plain) (w.with_accent-m.ensures a.v),
           )
     ] in (
-      search rules,
-      λ s. next_played s a.v a.notes.now a.chord.now l.i (omega arith) c.string_of-string.ensures.0 (played_in s l.played)
-          (one.0 s) ∙ l.invariant.1 s,
-      λ s. next_marks s a.v a.notes.now a.chord.now l.i (omega arith) c.string_of-string.ensures.0 e (added_in l.m)
-          one.1 ∙ l.invariant.2 s,
+      λ s. next_played s a.v a.notes.now a.chord.now l.struck-index (omega arith) c.string_of-string.ensures.0 (played_in s l.played)
+          (one.0 s) ∙ l.invariant.0 s,
+      λ s. next_marks s a.v a.notes.now a.chord.now l.struck-index (omega arith) c.string_of-string.ensures.0 e (added_in l.m)
+          one.1 ∙ l.invariant.1 s,
     )
 
 pub returns : goal.returns
 unfolding chord_in points_at
 returns c =
-    let l = c.loop-i in
-    let end = drop_of_length-le c.args.chord.now {i = l.i} (omega arith) in
-    record { played = λ s. rw end at (l.invariant.1 s); marks = λ s. rw end at (l.invariant.2 s) }
+    let l = c.loop-struck in
+    let end = drop_of_length-le c.args.chord.now {i = l.struck-index} (omega arith) in
+    record { played = λ s. rw end at (l.invariant.0 s); marks = λ s. rw end at (l.invariant.1 s) }

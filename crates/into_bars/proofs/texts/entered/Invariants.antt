@@ -4,8 +4,5 @@ use Rattle.words.specs.Words.{entered_words}
 use Rattle.into_bars.specs.Entered.{text_here}
 use Rattle.into_bars.proofs.texts.entered.Given as goal
 
-abbrev pub invariant-loop-left : goal.invariant-loop-left
-invariant-loop-left l = entered_words l.s l.left (text_here l.s l.bar l.track l.text) l.texts ≡ entered_words l.s l.count (text_here l.s l.bar l.track l.text) l.texts
-
-abbrev pub decreases-loop-left : goal.decreases-loop-left
-decreases-loop-left l = l.left
+abbrev pub invariant-loop-i : goal.invariant-loop-i
+invariant-loop-i l = entered_words l.s l.i (text_here l.s l.bar l.track l.text) l.texts ≡ entered_words l.s l.count (text_here l.s l.bar l.track l.text) l.texts

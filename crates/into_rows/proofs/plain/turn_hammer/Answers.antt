@@ -10,10 +10,10 @@ returns-in_default c =
 
 pub returns-then-company-key : goal.returns-then-company-key
 returns-then-company-key c =
-    λ place board flat mark x xs sums. rw c.in-Waits.is
+    λ place board flat mark x xs sums. rw c.in-Some.is
     (picked _ (sym (pulls_off place board flat mark x xs _ _ sums) ∙ c.if-company-key.true) c.set_technique.ensures)
 
 pub returns-else-company-key : goal.returns-else-company-key
 returns-else-company-key c =
-    λ place board flat mark x xs sums. rw c.in-Waits.is
+    λ place board flat mark x xs sums. rw c.in-Some.is
     (passed _ (sym (pulls_off place board flat mark x xs _ _ sums) ∙ c.if-company-key.false) refl)

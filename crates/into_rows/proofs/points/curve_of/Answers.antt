@@ -8,29 +8,30 @@ use Rattle.note.specs.Points.{points_at}
 use Rattle.into_rows.proofs.Curves.{points_step, points_held}
 use Rattle.into_rows.proofs.points.curve_of.Goals as goal
 
-pub loop-left-init : goal.loop-left-init
-unfolding finish points_at
-loop-left-init c =
-    rw c.no_points-slots.ensures
+pub loop-init : goal.loop-init
+loop-init c =
+    let all : c.args.bend.count - 0 ≡ c.args.bend.count = omega arith in
+    rw (c.new-curve.ensures, all)
 
-pub loop-left-preserved : goal.loop-left-preserved
-unfolding finish points_at
-loop-left-preserved c =
-    let l = c.loop-left in
+pub loop-preserved : goal.loop-preserved
+loop-preserved c =
+    let l = c.loop in
     let s = c.args.s.now in
+    let left = c.args.bend.count - l.counter in
+    let fewer : c.args.bend.count - (l.counter + 1) ≡ left - 1 = omega arith in
     rw (
+      fewer,
       c.point_after-at.ensures,
-      points_held s (l.at + 9) (l.left - 1),
-      c.with_point-slots.ensures,
+      points_held s (l.at + 9) (left - 1),
+      c.add.ensures,
       c.word_after.ensures,
-      c.word_after-in-loop-left.ensures,
+      c.word_after-in-loop.ensures,
       add-zero,
     )
-    (rw (points_step s l.at l.left c.loop-left-test.true) at l.invariant)
+    (rw (points_step s l.at left (omega arith)) at l.invariant)
 
 pub returns : goal.returns
 unfolding finish points_at
 returns c =
-    let l = c.loop-left in
-    let none : l.left ≡ 0 = omega arith in
-    c.finished.ensures ∙ ap with_ends (rw none at l.invariant)
+    let none : c.args.bend.count - c.loop.counter ≡ 0 = omega arith in
+    c.finish.ensures ∙ ap with_ends (rw none at c.loop.invariant)

@@ -1,4 +1,5 @@
 -- Point by point, each put among those before it.
+use Prim.Native.Nat.{◌-◌}
 use mathlib.Core.Path.{◌≡◌}
 use mathlib.Core.List.{[], map}
 use Rattle.curve.specs.Bend.{inserts}
@@ -7,8 +8,5 @@ use Rattle.note.specs.Points.{points_at}
 use Rattle.into_rows.proofs.Curves.{point_in}
 use Rattle.into_rows.proofs.points.curve_of.Given as goal
 
-abbrev pub invariant-loop-left : goal.invariant-loop-left
-invariant-loop-left l = inserts (shown l.slots) (map point_in (points_at l.s l.at l.left)) ≡ inserts [] (map point_in (points_at l.s l.initial.at l.initial.left))
-
-abbrev pub decreases-loop-left : goal.decreases-loop-left
-decreases-loop-left l = l.left
+abbrev pub invariant-loop : goal.invariant-loop
+invariant-loop l = inserts (shown l.curve) (map point_in (points_at l.s l.at (l.end - l.counter))) ≡ inserts [] (map point_in (points_at l.s l.initial.at l.end))

@@ -9,4 +9,4 @@ returns c =
     let a = c.args in
     row_added ms ps a.draft a.kept (voice_in a.voice.now).hammer (voice_in a.voice.now).run a.rows.now
     (rw c.hammer.ensures at (c.turn_hammer.ensures ms ps sums)) (rw was at c.turn_run.ensures) (rw was at c.ottava_marks.ensures)
-    (c.row_entry-row.ensures ms ps sums bends) c.store_row.ensures
+    (c.row_entry-row.ensures ms ps sums bends) c.store.ensures

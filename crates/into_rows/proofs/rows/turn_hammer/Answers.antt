@@ -9,10 +9,10 @@ returns-in_default c =
 
 pub returns-then-pulls : goal.returns-then-pulls
 returns-then-pulls c =
-    λ ms ps sums. rw c.in-Waits.is
+    λ ms ps sums. rw c.in-Some.is
     (picked _ (sym (c.pulls.ensures ms ps sums) ∙ c.if-pulls.true) c.set_technique.ensures)
 
 pub returns-else-pulls : goal.returns-else-pulls
 returns-else-pulls c =
-    λ ms ps sums. rw c.in-Waits.is
+    λ ms ps sums. rw c.in-Some.is
     (passed _ (sym (c.pulls.ensures ms ps sums) ∙ c.if-pulls.false) refl)

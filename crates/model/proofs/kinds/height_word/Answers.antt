@@ -1,6 +1,6 @@
 -- The word of a kind, case by case.
 use Rattle.model.proofs.kinds.height_word.Goals as goal
 
-pub returns-in-Peak : goal.returns-in-Peak
-returns-in-Peak c =
+pub returns-in-Some : goal.returns-in-Some
+returns-in-Some c =
     cc

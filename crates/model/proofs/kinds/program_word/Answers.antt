@@ -1,6 +1,6 @@
 -- The word of a kind, case by case.
 use Rattle.model.proofs.kinds.program_word.Goals as goal
 
-pub returns-in-Midi : goal.returns-in-Midi
-returns-in-Midi c =
+pub returns-in-Some : goal.returns-in-Some
+returns-in-Some c =
     cc

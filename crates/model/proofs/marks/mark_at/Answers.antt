@@ -10,4 +10,4 @@ returns-then-m-k c =
 pub returns : goal.returns
 unfolding mark_at
 returns c =
-    rw (lt-ltb _ _ c.if-m-k.false, c.articulation_of.ensures, c.without_last-d.ensures)
+    rw (lt-ltb _ _ c.if-m-k.false, c.from.ensures, c.without_last-d.ensures)

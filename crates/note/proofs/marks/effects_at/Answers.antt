@@ -14,7 +14,7 @@ returns-in_default c =
 
 pub marks_at-requires : goal.marks_at-requires
 marks_at-requires c =
-    (omega (arith, arrives_within c.bend_at-next.ensures.reads c.in-At.is, c.well_formed.0.1), omega (arith, c.requires.1))
+    (omega (arith, arrives_within c.bend_at-next.ensures.reads c.in-Ok.is, c.well_formed.0.1), omega (arith, c.requires.1))
 
 pub returns : goal.returns
 returns c =

@@ -2,8 +2,5 @@
 use Rattle.note.proofs.Turns.{Going}
 use Rattle.note.proofs.notes.read_notes.Given as goal
 
-abbrev pub invariant-loop-mask : goal.invariant-loop-mask
-invariant-loop-mask l = Going l.s l.from l.v l.strings l.w l.at l.mask
-
-abbrev pub decreases-loop-mask : goal.decreases-loop-mask
-decreases-loop-mask l = l.mask
+abbrev pub invariant-loop-i : goal.invariant-loop-i
+invariant-loop-i l = Going l.s l.from l.v l.strings l.w l.at l.i-iterator.left

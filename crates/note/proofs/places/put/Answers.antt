@@ -4,5 +4,5 @@ use Rattle.note.proofs.Stores.{byte_stored}
 use Rattle.note.proofs.places.put.Goals as goal
 
 pub returns : goal.returns
-returns c =
+returns g c =
     byte_stored (search rules) c.store.ensures

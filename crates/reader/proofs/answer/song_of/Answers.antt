@@ -5,4 +5,4 @@ use Rattle.reader.proofs.answer.song_of.Goals as goal
 pub returns : goal.returns
 unfolding song_of
 returns c =
-    rw c.tempo_of-tempo.ensures
+    rw c.tempo_of.ensures

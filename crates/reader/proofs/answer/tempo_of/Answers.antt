@@ -1,6 +1,6 @@
 -- By cases.
 use Rattle.reader.proofs.answer.tempo_of.Goals as goal
 
-pub returns-in-Bpm : goal.returns-in-Bpm
-returns-in-Bpm c =
+pub returns-in-Some : goal.returns-in-Some
+returns-in-Some c =
     cc

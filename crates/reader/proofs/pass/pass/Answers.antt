@@ -1,21 +1,26 @@
 -- One part after another.
-use native.Mathlib.Omega.{arith}
+use mathlib.Core.List.{[]}
+use mathlib.Core.Path.{refl}
+use Rattle.format.proofs.Rules.{took, read_exit, fails}
 use Rattle.header.specs.Header.{common_time}
+use Rattle.score.specs.File.{file}
 use Rattle.words.specs.Reports.{reports}
-use Rattle.reader.proofs.Passing.{passes, all_held}
+use Rattle.reader.proofs.Passing.{walked, passes, passes_not, all_held}
 use Rattle.reader.proofs.pass.pass.Goals as goal
 
-pub shape_of-bars : goal.shape_of-bars
-unfolding common_time reports
-shape_of-bars c =
-    omega (arith, c.all_bars-walked.auto.bars, c.headers-heads.auto.bars)
+pub returns-in_err-song-clause-passes : goal.returns-in_err-song-clause-passes
+unfolding file
+returns-in_err-song-clause-passes g c =
+    record { programs = []; parts = []; losses = []; reads = read_exit c.branch-song.ensures c.in_err-song.is c.from_residual.ensures (fails _ c.in_err-song.ensures.reads) }
 
-pub shape_of-tracks : goal.shape_of-tracks
+pub returns-in_err-at-clause-passes : goal.returns-in_err-at-clause-passes
 unfolding common_time reports
-shape_of-tracks c =
-    omega (arith, c.all_tracks-staves.auto.tracks)
+returns-in_err-at-clause-passes g c =
+    passes_not c.branch-at.ensures c.in_err-at.is c.from_residual-in_err-at.ensures
+    (walked _ _ (took c.in_ok-song.ensures.reads refl) c.before_bars.ensures c.song_losses-lost.ensures c.headers-at.ensures c.all_tracks-at.ensures c.before_beats-page.ensures (all_held c.in_ok-song.ensures.most c.all_tracks-at.auto.parts c.requires) c.all_bars.ensures.bars)
 
-pub returns : goal.returns
+pub returns-clause-passes : goal.returns-clause-passes
 unfolding common_time reports
-returns c =
-    passes _ _ c.song_at-song.ensures.reads c.before_bars.ensures c.song_losses-lost.ensures c.headers-heads.ensures c.all_tracks-staves.ensures c.before_beats.ensures (all_held c.song_at-song.ensures.most c.all_tracks-staves.auto.parts c.requires) c.all_bars-walked.ensures
+returns-clause-passes g c =
+    passes c.branch-at.ensures c.in_ok-at.is
+    (walked _ _ (took c.in_ok-song.ensures.reads refl) c.before_bars.ensures c.song_losses-lost.ensures c.headers-at.ensures c.all_tracks-at.ensures c.before_beats-page.ensures (all_held c.in_ok-song.ensures.most c.all_tracks-at.auto.parts c.requires) c.all_bars.ensures.bars)

@@ -1,14 +1,24 @@
 -- One part after another.
-use Rattle.format.proofs.Rules.{reading}
+use Rattle.format.proofs.Rules.{returning}
 use Rattle.song.specs.Info.{info}
 use Rattle.song.proofs.info.info_at.Goals as goal
 
-pub returns-in_default : goal.returns-in_default
+pub returns-in_err-names : goal.returns-in_err-names
 unfolding info
-returns-in_default c =
-    search reading depth 10
+returns-in_err-names c =
+    search returning depth 8 fits 4000
+
+pub returns-in_err-info : goal.returns-in_err-info
+unfolding info
+returns-in_err-info c =
+    search returning depth 8 fits 4000
+
+pub returns-in_err-at : goal.returns-in_err-at
+unfolding info
+returns-in_err-at c =
+    search returning depth 8 fits 4000
 
 pub returns : goal.returns
 unfolding info
 returns c =
-    search reading depth 10
+    search returning depth 8 fits 4000

@@ -1,7 +1,7 @@
 -- What is left of the bar numbers.
 use borrow.Author.Rules.{rules}
 use lib.ListN.{length-set}
-use Rattle.format.proofs.Rules.{turning, then, done}
+use Rattle.format.proofs.Rules.{turning, looping}
 use Rattle.song.specs.Setup.{no_directions, next_direction, nineteen}
 use Rattle.song.proofs.setup.nineteen_at.Goals as goal
 
@@ -10,12 +10,17 @@ unfolding no_directions next_direction nineteen
 loop-i-init c =
     (search rules, search rules, search turning)
 
+pub returns-in_err-bar : goal.returns-in_err-bar
+unfolding no_directions next_direction nineteen
+returns-in_err-bar c =
+    search looping
+
 pub loop-i-preserved : goal.loop-i-preserved
 unfolding no_directions next_direction nineteen
 loop-i-preserved c =
-    (search rules, search (rules, length-set), rw c.bar_number.ensures (search (turning, then, done)))
+    (search rules, search (rules, length-set), rw c.bar_number.ensures (search looping))
 
 pub returns : goal.returns
 unfolding no_directions next_direction nineteen
 returns c =
-    search turning
+    search looping

@@ -1,7 +1,7 @@
 -- What is left of the channels.
 use borrow.Author.Rules.{rules}
 use lib.ListN.{length-set}
-use Rattle.format.proofs.Rules.{turning, then, done}
+use Rattle.format.proofs.Rules.{turning, looping}
 use Rattle.song.specs.Setup.{no_port, next_channel, port}
 use Rattle.song.proofs.setup.port_at.Goals as goal
 
@@ -10,12 +10,17 @@ unfolding no_port next_channel port
 loop-i-init c =
     (search rules, search rules, search turning)
 
+pub returns-in_err-program : goal.returns-in_err-program
+unfolding no_port next_channel port
+returns-in_err-program c =
+    search looping
+
 pub loop-i-preserved : goal.loop-i-preserved
 unfolding no_port next_channel port
 loop-i-preserved c =
-    (search rules, search (rules, length-set), search (turning, then, done))
+    (search rules, search (rules, length-set), search looping)
 
 pub returns : goal.returns
 unfolding no_port next_channel port
 returns c =
-    search turning
+    search looping

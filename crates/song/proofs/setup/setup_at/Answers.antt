@@ -1,9 +1,9 @@
 -- One part after another.
-use Rattle.format.proofs.Rules.{reading}
+use Rattle.format.proofs.Rules.{returning}
 use Rattle.song.specs.Setup.{setup}
 use Rattle.song.proofs.setup.setup_at.Goals as goal
 
 pub returns : goal.returns
 unfolding setup
 returns c =
-    search reading depth 10
+    search returning depth 8 fits 4000

@@ -13,19 +13,19 @@ returns-then-code-lt256 c =
 pub loop-i-init : goal.loop-i-init
 unfolding index
 loop-i-init c =
-    (search rules, search rules, refl)
+    (search rules, refl)
 
 pub returns-then-i-code : goal.returns-then-i-code
 unfolding index
 returns-then-i-code c =
-    λ b h e. byte_placed _ _ b c.loop-i.invariant.0 (placed_here _ _ c.loop-i.invariant.2 c.loop-i-test.true c.if-i-code.true) h e
+    λ b h e. byte_placed _ _ b c.loop-i.invariant.0 (placed_here _ _ c.loop-i.invariant.1 c.loop-i-test.true c.if-i-code.true) h e
 
 pub loop-i-preserved : goal.loop-i-preserved
 unfolding index
 loop-i-preserved c =
-    (search rules, search rules, placed_on _ _ c.loop-i.invariant.2 c.loop-i-test.true c.if-i-code.false)
+    (search rules, placed_on _ _ c.loop-i.invariant.1 c.loop-i-test.true c.if-i-code.false)
 
 pub returns : goal.returns
 unfolding index
 returns c =
-    λ b h e. byte_placed _ _ b c.loop-i.invariant.0 (placed_nowhere _ _ c.loop-i.invariant.2 c.loop-i-test.false) h e
+    λ b h e. byte_placed _ _ b c.loop-i.invariant.0 (placed_nowhere _ _ c.loop-i.invariant.1 c.loop-i-test.false) h e

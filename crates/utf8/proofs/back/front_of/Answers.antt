@@ -1,21 +1,22 @@
 -- The byte that the bytes at the front can be, where its character is there.
-use Rattle.utf8.proofs.Front.{byte_only}
-use Rattle.utf8.proofs.Turns.{character_within, character_whole, found_there, found_nowhere}
+use mathlib.Core.Path.{◌≡◌, ◌∙◌, ap}
+use mathlib.Core.List.{List}
+use lib.ListN.{length, drop}
 use borrow.Author.Rules.{rules}
+use Prim.Native.Nat.{ℕ}
+use Rattle.std.specs.Prelude.{None}
+use Rattle.utf8.proofs.Front.{byte_only}
+use Rattle.utf8.proofs.Turns.{found_there, found_nowhere}
 use Rattle.utf8.proofs.back.front_of.Goals as goal
 
-pub slice_bounds-bytes-end : goal.slice_bounds-bytes-end
-slice_bounds-bytes-end c =
-    character_within c.character_of-character.ensures
-
-pub slice_bounds-begins_with-end : goal.slice_bounds-begins_with-end
-slice_bounds-begins_with-end c =
-    character_whole c.character_of-character.ensures
-
-pub returns-then-begins_with : goal.returns-then-begins_with
-returns-then-begins_with c =
-    found_there _ c.character_of-character.ensures _ c.begins_with.ensures (search rules) c.if-begins_with.true
+pub returns-in_err-rest : goal.returns-in_err-rest
+returns-in_err-rest c =
+    let is : c.from_residual.result ≡ None = search rules in
+    let h = rw c.in_err-rest.was at c.strip_prefix.ensures.cases in
+    rw is (found_nowhere _ _ c.args.s.now (c.as_slice.ensures ∙ c.character_of-character.ensures) (byte_only _ _ _ c.code_at-code.ensures c.byte_of-byte.ensures) h)
 
 pub returns : goal.returns
 returns c =
-    found_nowhere _ c.character_of-character.ensures _ c.begins_with.ensures (byte_only _ _ _ c.code_at-code.ensures c.byte_of-byte.ensures) c.if-begins_with.false
+    let h = c.in_ok-rest.ensures.cases in
+    let e = c.as_slice.ensures ∙ c.character_of-character.ensures in
+    (found_there _ _ c.args.s.now e (search rules) h.0, h.1 ∙ ap (λ (xs : List ℕ). drop (length xs) c.args.s.now) e)

@@ -1,53 +1,53 @@
--- The bytes passed are stored, those that are left go behind them.
+-- The bytes passed are counted and stored, those that are left go behind them.
 use native.Mathlib.Omega.{arith}
-use mathlib.Core.Path.{refl, ◌∙◌}
-use lib.ListN.{length-set}
-use Rattle.utf8.proofs.Turns.{refused_at, on, store_on, stored_all, stored_none}
-use borrow.Author.Rules.{rules}
+use mathlib.Core.Path.{◌∙◌, ap, refl, sym}
+use borrow.Author.Tests.{eqb-true}
+use Prim.Native.Nat.{ℕ}
+use lib.ListN.{length}
+use mathlib.Core.List.{List}
+use Rattle.utf8.specs.Back.{back}
+use Rattle.utf8.proofs.Turns.{left_over, back_refused, counted_none, shorter, count_on, store_on, counted_all, stored_all, stored_none}
 use Rattle.utf8.proofs.back.read.Goals as goal
 
-pub loop-at-init : goal.loop-at-init
-loop-at-init c =
-    (search rules, search rules, refl, refl)
+pub loop-left-init : goal.loop-left-init
+loop-left-init c =
+    (omega arith, counted_none (back c.args.text.now), refl)
 
-pub returns-in_default : goal.returns-in_default
-returns-in_default c =
-    λ bs g. let a = c.args in
-    stored_none _ _ bs _ c.loop-at.invariant.3 (refused_at a.text.now c.loop-at.at c.loop-at-test.true c.front_of-found.ensures c.in_default.is) g
+pub returns-in_err-byte-clause-counted : goal.returns-in_err-byte-clause-counted
+returns-in_err-byte-clause-counted c =
+    let h = left_over _ (sym c.loop-left-test.ensures) in
+    c.from_residual.ensures ∙ rw (back_refused c.loop-left.left.now h c.in_err-byte.ensures) at c.loop-left.invariant.1
 
-pub overflow_add-n : goal.overflow_add-n
-overflow_add-n c =
-    let a = c.args in
-    let f = c.front_of-found.ensures in
-    let e = c.in-Byte.is in
-    omega (arith, on a.text.now c.loop-at.at c.loop-at-test.true f e)
+pub returns-in_err-byte-clause-stored : goal.returns-in_err-byte-clause-stored
+returns-in_err-byte-clause-stored c =
+    let h = left_over _ (sym c.loop-left-test.ensures) in
+    λ bs g. stored_none _ _ _ (back_refused c.loop-left.left.now h c.in_err-byte.ensures) _ _ bs c.loop-left.invariant.2 g
 
-pub overflow_add-at : goal.overflow_add-at
-overflow_add-at c =
-    let a = c.args in
-    let f = c.front_of-found.ensures in
-    let e = c.in-Byte.is in
-    omega (arith, on a.text.now c.loop-at.at c.loop-at-test.true f e)
+pub loop-left-smaller : goal.loop-left-smaller
+loop-left-smaller c =
+    let h = left_over _ (sym c.loop-left-test.ensures) in
+    let e = c.in_ok-byte.ensures in
+    let s = shorter c.loop-left.left.now h _ e.0 in
+    let n = ap (λ (x : List ℕ). length x) e.1 in
+    omega arith
 
-pub loop-at-smaller : goal.loop-at-smaller
-loop-at-smaller c =
-    let a = c.args in
-    let f = c.front_of-found.ensures in
-    let e = c.in-Byte.is in
-    omega (arith, on a.text.now c.loop-at.at c.loop-at-test.true f e)
-
-pub loop-at-preserved : goal.loop-at-preserved
-loop-at-preserved c =
-    let a = c.args in
-    let f = c.front_of-found.ensures in
-    let e = c.in-Byte.is in
-    let s = on a.text.now c.loop-at.at c.loop-at-test.true f e in (
-      omega arith,
-      omega arith,
-      rw c.put.ensures (simp length-set c.loop-at.invariant.2),
-      rw c.put.ensures (store_on a.text.now c.loop-at.at c.loop-at-test.true f e c.loop-at.out c.loop-at.n ∙ c.loop-at.invariant.3),
+pub loop-left-preserved : goal.loop-left-preserved
+loop-left-preserved c =
+    let h = left_over _ (sym c.loop-left-test.ensures) in
+    let e = c.in_ok-byte.ensures in
+    let s = shorter c.loop-left.left.now h _ e.0 in
+    let n = ap (λ (x : List ℕ). length x) e.1 in (
+      omega (arith, s, n, c.loop-left.invariant.0),
+      rw e.1 (count_on c.loop-left.left.now h _ e.0 c.loop-left.n ∙ c.loop-left.invariant.1),
+      rw (e.1, c.store.ensures) (store_on c.loop-left.left.now h _ e.0 c.loop-left.out c.loop-left.n ∙ c.loop-left.invariant.2),
     )
 
-pub returns : goal.returns
-returns c =
-    λ bs g. stored_all c.args.text.now c.loop-at.at c.loop-at.n c.loop-at-test.false _ _ bs c.loop-at.invariant.3 g
+pub returns-clause-counted : goal.returns-clause-counted
+returns-clause-counted c =
+    let h = eqb-true _ _ (sym c.loop-left-test.ensures) in
+    counted_all c.loop-left.left.now c.args.text.now c.loop-left.n (omega (arith, h)) c.loop-left.invariant.1
+
+pub returns-clause-stored : goal.returns-clause-stored
+returns-clause-stored c =
+    let h = eqb-true _ _ (sym c.loop-left-test.ensures) in
+    λ bs g. stored_all c.loop-left.left.now c.args.text.now c.loop-left.n (omega (arith, h)) _ _ bs c.loop-left.invariant.2 g

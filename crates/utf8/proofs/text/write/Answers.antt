@@ -1,49 +1,44 @@
 -- Character by character.
 use native.Mathlib.Omega.{arith}
-use mathlib.Core.Path.{refl, ◌∙◌}
-use lib.Seq.{length-sets}
-use Rattle.utf8.proofs.Turns.{character_within, character_whole, written_out, write_room, write_on}
-use borrow.Author.Rules.{rules}
+use native.Mathlib.Nat.{add-zero}
+use Prim.Native.Nat.{ℕ}
+use mathlib.Core.Path.{◌≡◌, ◌∙◌, ap}
+use mathlib.Core.List.{List}
+use lib.ListN.{length}
+use Rattle.utf8.specs.Characters.{written}
+use Rattle.utf8.proofs.Turns.{written_length, written_out, write_on, stated_length, stated_not}
 use Rattle.utf8.proofs.text.write.Goals as goal
 
-pub loop-i-init : goal.loop-i-init
-loop-i-init c =
-    (search rules, refl, search rules, refl)
+pub returns-in_err-at-clause-size : goal.returns-in_err-at-clause-size
+returns-in_err-at-clause-size c =
+    let e = ap (λ (x : List ℕ). length x) (c.as_slice-bytes.ensures ∙ c.character_of-character.ensures) in
+    let l = written_length c.args.text.now c.loop-byte.byte-index c.loop-byte-test.true in
+    c.from_residual.ensures ∙ stated_not _ (omega (arith, e, l, c.in_err-at.ensures, c.loop-byte.invariant.1))
 
-pub slice_bounds-bytes-end : goal.slice_bounds-bytes-end
-slice_bounds-bytes-end c =
-    character_within c.character_of-character.ensures
+pub returns-in_err-at-clause-stored : goal.returns-in_err-at-clause-stored
+returns-in_err-at-clause-stored c =
+    let e = ap (λ (x : List ℕ). length x) (c.as_slice-bytes.ensures ∙ c.character_of-character.ensures) in
+    let l = written_length c.args.text.now c.loop-byte.byte-index c.loop-byte-test.true in
+    λ h. absurd (omega (arith, h, e, l, c.in_err-at.ensures, c.loop-byte.invariant.1))
 
-pub slice_bounds-store-end : goal.slice_bounds-store-end
-slice_bounds-store-end c =
-    character_whole c.character_of-character.ensures
-
-pub store-requires : goal.store-requires
-store-requires c =
-    let h = c.character_of-character.ensures in
+pub loop-byte-preserved : goal.loop-byte-preserved
+loop-byte-preserved c =
     let a = c.args in
-    let room = write_room a.text.now c.loop-i.i _ _ c.loop-i-test.true h in
-    let whole = character_whole h in
-    omega (arith, c.loop-i.invariant)
-
-pub overflow_add-at : goal.overflow_add-at
-overflow_add-at c =
-    let h = c.character_of-character.ensures in
-    let a = c.args in
-    let room = write_room a.text.now c.loop-i.i _ _ c.loop-i-test.true h in
-    omega (arith, c.loop-i.invariant)
-
-pub loop-i-preserved : goal.loop-i-preserved
-loop-i-preserved c =
-    let h = c.character_of-character.ensures in
-    let a = c.args in
-    let room = write_room a.text.now c.loop-i.i _ _ c.loop-i-test.true h in (
-      search rules,
-      rw c.store.ensures (simp length-sets c.loop-i.invariant.1),
-      omega (arith, c.loop-i.invariant.2),
-      rw c.store.ensures (write_on a.text.now c.loop-i.out c.loop-i.at c.loop-i.i _ _ c.loop-i-test.true h ∙ c.loop-i.invariant.3),
+    let e = c.as_slice-bytes.ensures ∙ c.character_of-character.ensures in
+    let n = ap (λ (x : List ℕ). length x) e in
+    let l = written_length a.text.now c.loop-byte.byte-index c.loop-byte-test.true in (
+      omega (arith, c.in_ok-at.ensures),
+      omega (arith, n, l, c.in_ok-at.ensures.1, c.loop-byte.invariant.1),
+      rw c.store_words.ensures (write_on a.text.now c.loop-byte.out c.loop-byte.at c.loop-byte.byte-index c.loop-byte-test.true _ _ e c.in_ok-at.ensures.1)
+          ∙ c.loop-byte.invariant.2,
     )
 
-pub returns : goal.returns
-returns c =
-    rw (written_out c.args.text.now c.loop-i.i c.loop-i-test.false) at c.loop-i.invariant.3
+pub returns-clause-size : goal.returns-clause-size
+returns-clause-size c =
+    let e = written_out c.args.text.now c.loop-byte.byte-index c.loop-byte-test.false in
+    let l : c.loop-byte.at ≡ length (written c.args.text.now) = rw (e, add-zero) at c.loop-byte.invariant.1 in
+    rw (← l) (stated_length c.loop-byte.at c.loop-byte.invariant.0)
+
+pub returns-clause-stored : goal.returns-clause-stored
+returns-clause-stored c =
+    λ h. rw (written_out c.args.text.now c.loop-byte.byte-index c.loop-byte-test.false) at c.loop-byte.invariant.2

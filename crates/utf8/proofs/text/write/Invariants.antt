@@ -1,14 +1,12 @@
 -- Character by character.
-use Prim.Native.Nat.{◌+◌, ◌-◌, ◌≤◌}
+use Prim.Native.Nat.{◌+◌, ◌≤◌}
 use mathlib.Core.Path.{◌≡◌}
 use lib.ListN.{length, drop}
 use lib.Seq.{sets}
 use Rattle.utf8.specs.Characters.{written}
+use Rattle.utf8.specs.Answers.{largest}
 use Rattle.utf8.proofs.text.write.Given as goal
 
-abbrev pub invariant-loop-i : goal.invariant-loop-i
-invariant-loop-i l = (l.i ≤ length l.text) × (length l.out ≡ length l.initial.out) × (l.at + length (written (drop l.i l.text)) ≤ length l.initial.out)
-    × (sets l.out l.at (written (drop l.i l.text)) ≡ sets l.initial.out 0 (written l.text))
-
-abbrev pub decreases-loop-i : goal.decreases-loop-i
-decreases-loop-i l = length l.text - l.i
+abbrev pub invariant-loop-byte : goal.invariant-loop-byte
+invariant-loop-byte l = (l.at ≤ largest) × (l.at + length (written (drop l.byte-index l.text)) ≡ length (written l.text))
+    × (sets l.out l.at (written (drop l.byte-index l.text)) ≡ sets l.initial.out 0 (written l.text))

@@ -6,10 +6,10 @@ use Rattle.words.proofs.Voices.{no_hammer}
 use borrow.Author.Rules.{rules}
 use Rattle.words.proofs.voice.hammer_words.Goals as goal
 
-pub returns-in-NoHammer : goal.returns-in-NoHammer
-returns-in-NoHammer c =
-    record { words = search rules; said = rw c.in-NoHammer.is no_hammer }
+pub returns-in-None : goal.returns-in-None
+returns-in-None c =
+    record { words = search rules; said = rw c.in-None.is no_hammer }
 
-pub returns-in-Waits : goal.returns-in-Waits
-returns-in-Waits c =
-    record { words = cc; said = rw c.byte_word.ensures (hammer_back _ _ (omega arith) ∙ sym c.in-Waits.is) }
+pub returns-in-Some : goal.returns-in-Some
+returns-in-Some c =
+    record { words = cc; said = rw c.byte_word.ensures.value (hammer_back _ _ (omega (arith, c.byte_word.ensures.value, c.byte_word.ensures.byte)) ∙ sym c.in-Some.is) }

@@ -1,8 +1,0 @@
--- A byte is stored.
-use borrow.Author.Rules.{rules}
-use Rattle.note.proofs.Stores.{byte_stored}
-use Rattle.beat.proofs.places.put.Goals as goal
-
-pub returns : goal.returns
-returns c =
-    byte_stored (search rules) c.store.ensures

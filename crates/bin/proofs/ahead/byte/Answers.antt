@@ -1,8 +1,0 @@
--- A byte, where there is one.
-use mathlib.Core.Path.{sym}
-use lib.ListN.{get_or-eq_default}
-use Rattle.bin.proofs.ahead.byte.Goals as goal
-
-pub returns : goal.returns
-returns c =
-    sym (get_or-eq_default c.args.s.now 0 c.if-at-s.false)

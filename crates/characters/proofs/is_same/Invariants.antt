@@ -1,9 +1,0 @@
--- The loop ends with the last byte, or with two that differ.
-use Rattle.std.proofs.Common.{◌≤◌, ◌-◌, length, ◌≡◌}
-use Rattle.characters.proofs.is_same.Given as goal
-
-abbrev pub invariant-loop-i : goal.invariant-loop-i
-invariant-loop-i l = (l.i ≤ length l.a) × (length l.a ≡ length l.b)
-
-abbrev pub decreases-loop-i : goal.decreases-loop-i
-decreases-loop-i l = length l.a - l.i

@@ -1,7 +1,0 @@
--- One field of an entry is one word.
-use mathlib.Core.Path.{◌∙◌}
-use Rattle.entries.proofs.rows.set_technique.Goals as goal
-
-pub returns : goal.returns
-returns c =
-    c.store_field.ensures ∙ rw c.technique_word.ensures

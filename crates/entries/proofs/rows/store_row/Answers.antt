@@ -1,8 +1,0 @@
--- The words of an entry, stored where the entry starts.
-use mathlib.Core.Path.{◌∙◌}
-use Rattle.entries.proofs.Stored.{row_stored}
-use Rattle.entries.proofs.rows.store_row.Goals as goal
-
-pub returns : goal.returns
-returns c =
-    c.store_words-2.ensures ∙ rw (c.store_words.ensures, c.back_words-back.ensures, c.front_words-front.ensures) (row_stored c.args.rows.now c.args.x _ _ c.start_of-at.ensures)

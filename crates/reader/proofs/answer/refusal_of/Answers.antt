@@ -1,7 +1,0 @@
--- By cases.
-use mathlib.Core.Path.{◌∙◌}
-use Rattle.reader.proofs.answer.refusal_of.Goals as goal
-
-pub returns-in-Count : goal.returns-in-Count
-returns-in-Count c =
-    c.count_refused.ensures ∙ rw c.in-Count.is

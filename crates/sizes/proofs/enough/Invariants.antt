@@ -1,9 +1,0 @@
--- The loop ends with the sixth table.
-use Rattle.std.proofs.Common.{◌-◌, ◌≤◌}
-use Rattle.sizes.proofs.enough.Given as goal
-
-abbrev pub invariant-loop-k : goal.invariant-loop-k
-invariant-loop-k l = l.k ≤ 6
-
-abbrev pub decreases-loop-k : goal.decreases-loop-k
-decreases-loop-k l = 6 - l.k

@@ -1,9 +1,0 @@
--- The loop ends with the last word.
-use Rattle.std.proofs.Common.{◌-◌, ◌≤◌}
-use Rattle.sizes.proofs.same_words.Given as goal
-
-abbrev pub invariant-loop-k : goal.invariant-loop-k
-invariant-loop-k l = l.k ≤ 38
-
-abbrev pub decreases-loop-k : goal.decreases-loop-k
-decreases-loop-k l = 38 - l.k

@@ -1,9 +1,0 @@
--- Each turn but the last reads a byte or more.
-use Rattle.std.proofs.Common.{◌≤◌, ◌-◌, length}
-use Rattle.tables_doc.proofs.read_full.Given as goal
-
-abbrev pub invariant-loop-n : goal.invariant-loop-n
-invariant-loop-n g l = l.n ≤ length l.room
-
-abbrev pub decreases-loop-n : goal.decreases-loop-n
-decreases-loop-n g l = length l.room - l.n
