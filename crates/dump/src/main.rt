@@ -9,8 +9,8 @@ use entries::texts::TEXT_WORDS;
 use entries::tracks::TRACK_WORDS;
 use model::Answer;
 use show::Tables;
+use show::page::Page;
 use std::io;
-use std::io::{BufWriter, Write};
 
 // One byte more than is taken, to tell a longer file.
 const ROOM: usize = 1048577;
@@ -27,18 +27,13 @@ const POINTS: usize = 16384 * POINT_WORDS;
 
 const TEXTS: usize = 4096 * TEXT_WORDS;
 
-fn print(
-    rt: &(impl Print + Alloc),
-    data: &[u8],
-    answer: Answer,
-    tables: Tables<'_>,
-) -> io::Result<()> {
-    let mut out = BufWriter::new(rt.alloc(), io::writer(rt))?;
-    show::dump(&mut out, data, answer, tables)?;
-    out.flush()
+fn print(rt: &impl Print, data: &[u8], answer: Answer, tables: Tables<'_>) -> io::Result<()> {
+    let mut page = Page::new(io::writer(rt));
+    show::dump(&mut page, data, answer, tables)?;
+    page.finish()
 }
 
-fn print_file(rt: &(impl Print + Eprint + Alloc), data: &[u8]) -> io::Result<()> {
+fn print_file(rt: &(impl Print + Eprint), data: &[u8]) -> io::Result<()> {
     let mut bars = [0; BARS];
     let mut tracks = [0; TRACKS];
     let mut rows = [0; ROWS];
@@ -68,7 +63,7 @@ fn print_file(rt: &(impl Print + Eprint + Alloc), data: &[u8]) -> io::Result<()>
     Ok(())
 }
 
-fn dump(rt: &(impl io::Input + Print + Eprint + Alloc), room: &mut [u8; ROOM]) -> io::Result<()> {
+fn dump(rt: &(impl io::Input + Print + Eprint), room: &mut [u8; ROOM]) -> io::Result<()> {
     let Ok(data) = show::input::read(&mut rt.reader(), room) else {
         return rt.eprintln("dump: standard input could not be read");
     };

@@ -11,6 +11,7 @@ pub mod digest; // the digest of a dump
 pub mod input; // standard input
 mod kinds; // the words of the small kinds
 mod lines; // the lines of entries
+pub mod page; // lines gathered before they are written
 pub mod record; // the oracle's list
 
 // A value as the dump has it.
