@@ -2,7 +2,7 @@
 #![tactic(auto)]
 
 use entries::Entry;
-use model::{Answer, Bar, Losses, Member, Outcome, Point, Row, Song, Text, Track};
+use model::{Answer, Bar, Losses, Member, Outcome, Point, Row, Song, Text, Track, answers};
 use std::fmt::Display;
 use std::io;
 use std::io::Write;
@@ -102,31 +102,29 @@ where
     Ok(())
 }
 
-// What was not kept, in byte order of the codes.
+// The codes of what was not kept, in byte order.
+const LOST: [&str; 17] = [
+    "drum-kit",
+    "harmonic-type",
+    "let-ring-with-palm-mute",
+    "on-beat-grace",
+    "repeat-count",
+    "triplet-feel",
+    "unsupported-chord-diagram",
+    "unsupported-direction",
+    "unsupported-fingering",
+    "unsupported-mix-change",
+    "unsupported-rasgueado",
+    "unsupported-right-hand-fingering",
+    "unsupported-slide-type",
+    "unsupported-tapping",
+    "unsupported-volume-swell",
+    "unsupported-wah",
+    "unsupported-whammy",
+];
+
 fn loss_lines(out: &mut impl Write, x: Losses) -> io::Result<()> {
-    let counts = [
-        ("drum-kit", x.drum_kit),
-        ("harmonic-type", x.harmonic_type),
-        ("let-ring-with-palm-mute", x.let_ring_with_palm_mute),
-        ("on-beat-grace", x.on_beat_grace),
-        ("repeat-count", x.repeat_count),
-        ("triplet-feel", x.triplet_feel),
-        ("unsupported-chord-diagram", x.unsupported_chord_diagram),
-        ("unsupported-direction", x.unsupported_direction),
-        ("unsupported-fingering", x.unsupported_fingering),
-        ("unsupported-mix-change", x.unsupported_mix_change),
-        ("unsupported-rasgueado", x.unsupported_rasgueado),
-        (
-            "unsupported-right-hand-fingering",
-            x.unsupported_right_hand_fingering,
-        ),
-        ("unsupported-slide-type", x.unsupported_slide_type),
-        ("unsupported-tapping", x.unsupported_tapping),
-        ("unsupported-volume-swell", x.unsupported_volume_swell),
-        ("unsupported-wah", x.unsupported_wah),
-        ("unsupported-whammy", x.unsupported_whammy),
-    ];
-    for (i, (code, count)) in counts.iter().enumerate() {
+    for (i, (code, count)) in LOST.iter().zip(answers::loss_words(x)).enumerate() {
         writeln!(out, "loss {i} code=gp.{code} count={count}")?;
     }
     Ok(())
