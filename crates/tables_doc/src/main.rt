@@ -16,7 +16,7 @@ use model::{
     Text, Ties, Time, Track, Tunings, Tuplet, marks,
 };
 use std::io;
-use std::io::{BufWriter, Write};
+use std::io::Write;
 
 // Words of one entry of each table.
 const WORDS: usize = BAR_WORDS + TRACK_WORDS + ROW_WORDS + MEMBER_WORDS + POINT_WORDS + TEXT_WORDS;
@@ -214,7 +214,7 @@ fn write_filled(out: &mut impl Write, text: &[u8], words: &[u32; WORDS]) -> io::
             out.write_all(&[*byte])?;
         }
     }
-    out.flush()
+    Ok(())
 }
 
 fn main(rt: HostRuntime) -> io::Result<()> {
@@ -222,6 +222,5 @@ fn main(rt: HostRuntime) -> io::Result<()> {
     store_all(&mut words);
     let mut room = [0; TEXT];
     let text = show::input::read(&mut rt.reader(), &mut room)?;
-    let mut out = BufWriter::new(rt.alloc(), io::writer(&rt))?;
-    write_filled(&mut out, text, &words)
+    write_filled(&mut io::writer(&rt), text, &words)
 }
