@@ -2,20 +2,21 @@
 // refused which it is, its value and its offset, and the version, title, composer, bars and tracks, all 0 where the file is refused.
 #![tactic(auto)]
 
-use show::Shown;
+use shelves::view::words_of;
 use std::io;
 
 // One byte more than is taken, to tell a longer file.
 const ROOM: usize = 4194305;
 
+// One write, of the words that the library says.
 fn print_shelf(rt: &impl Print, data: &[u8]) -> io::Result<()> {
-    let shelf = shelves::shelf(data);
-    let outcome = Shown(shelf.outcome);
-    let version = shelf.version;
-    let title = Shown(shelf.title);
-    let composer = Shown(shelf.composer);
-    print!(rt; "shelf outcome={outcome} version={version} title={title} composer={composer}")?;
-    println!(rt; " bars={} tracks={}", shelf.bars, shelf.tracks)
+    let shelf = words_of(shelves::shelf(data));
+    let [outcome, which, value, offset, version, ..] = shelf;
+    let [.., title, title_end, composer, composer_end, bars, tracks] = shelf;
+    let value = value.cast_signed();
+    println!(rt;
+        "shelf outcome={outcome} which={which} value={value} offset={offset} version={version} title={title},{title_end} composer={composer},{composer_end} bars={bars} tracks={tracks}"
+    )
 }
 
 fn show_shelf(rt: &(impl io::Input + Print + Eprint), room: &mut [u8; ROOM]) -> io::Result<()> {
