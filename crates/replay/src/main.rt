@@ -9,9 +9,10 @@ use entries::rows::ROW_WORDS;
 use entries::texts::TEXT_WORDS;
 use entries::tracks::TRACK_WORDS;
 use show::Tables;
+use show::page::Page;
 use show::record::{Broken, List, Record, WORDS};
 use std::io;
-use std::iter::repeat_n;
+use std::io::Write;
 
 // Bytes of a list.
 const ROOM: usize = 1048576;
@@ -106,20 +107,31 @@ fn read_words(number: u32, length: u32, input: &[u8]) -> [u32; WORDS] {
     show::record::answer_words(number, length, answer, digest)
 }
 
-// Names the words in which an input's record differs from the list's, in a line; a line that cannot be written is left out.
-fn name_differences(rt: &impl Print, listed: &[u32; WORDS], read: &[u32; WORDS]) {
+// Names the words in which an input's record differs from the list's, in a line.
+fn write_differences(
+    out: &mut impl Write,
+    listed: &[u32; WORDS],
+    read: &[u32; WORDS],
+) -> io::Result<()> {
     let mut named = false;
     for ((name, listed), word) in NAMES.iter().zip(listed).zip(read) {
         if listed != word {
-            let _ = if named {
-                print!(rt; ", {name}")
+            if named {
+                write!(out, ", {name}")?;
             } else {
-                print!(rt; "input {}: {name}", read[0])
-            };
+                write!(out, "input {}: {name}", read[0])?;
+            }
             named = true;
         }
     }
-    let _ = println!(rt);
+    writeln!(out)
+}
+
+// One write; a line that cannot be written is left out.
+fn name_differences(rt: &impl Print, listed: &[u32; WORDS], read: &[u32; WORDS]) {
+    let mut page = Page::new(io::writer(rt));
+    let _ = write_differences(&mut page, listed, read);
+    let _ = page.finish();
 }
 
 // Whether an input's record differs from the list's.
@@ -132,7 +144,14 @@ fn differs(rt: &impl Print, number: u32, record: &Record<'_>, input: &[u8]) -> b
     true
 }
 
-// The input of a record that the list has in short: bytes are left out at a place of it.
+// Bytes from the start of a room on, as far as it goes.
+fn put(room: &mut [u8], bytes: &[u8]) {
+    for (to, byte) in room.iter_mut().zip(bytes) {
+        *to = *byte;
+    }
+}
+
+// The input of a record that the list has in short: bytes are left out at a place of it, of which the room is full.
 fn stretched<'a>(
     room: &'a mut [u8; STRETCHED],
     listed: &[u8],
@@ -143,9 +162,9 @@ fn stretched<'a>(
         .split_at_checked(place as usize)
         .unwrap_or((&[], &[]));
     let run = left_out as usize;
-    let bytes = before.iter().chain(repeat_n(&FILL, run)).chain(after);
-    for (to, byte) in room.iter_mut().zip(bytes) {
-        *to = *byte;
+    put(room, before);
+    if let Some(rest) = room.get_mut(before.len() + run..) {
+        put(rest, after);
     }
     room.get(..listed.len() + run).unwrap_or(&[])
 }
