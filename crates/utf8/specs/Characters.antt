@@ -1,5 +1,5 @@
 -- Texts of windows-1252 as UTF-8 (document 02, l).
-use Rattle.std.specs.Prelude.{ℕ, ◌+◌, ◌-◌, ◌/◌, ◌%◌, List, [], ◌∷◌, ◌++◌, get_or, leb, ltb}
+use Rattle.std.specs.Prelude.{ℕ, ◌+◌, ◌-◌, ◌/◌, ◌%◌, List, [], ◌∷◌, ◌++◌, take, get_or, leb, ltb}
 use Rattle.format.specs.Text.{pick}
 
 -- the windows-1252 index of the WHATWG Encoding Standard: the code points of the bytes 0x80 to 0x9F, in their order
@@ -20,6 +20,10 @@ encoded c =
     pick (ltb c 0x80) (c ∷ [])
     (pick (ltb c 0x800) ((0xC0 + c / 64) ∷ (0x80 + c % 64) ∷ [])
     ((0xE0 + c / 4096) ∷ (0x80 + c / 64 % 64) ∷ (0x80 + c % 64) ∷ []))
+
+-- three bytes: these, and zeros behind them
+abbrev pub filled : List ℕ → List ℕ
+filled bs = take 3 (bs ++ (0 ∷ 0 ∷ 0 ∷ []))
 
 -- the character of a byte
 unfoldable pub character : ℕ → List ℕ

@@ -1,6 +1,7 @@
 // The character of a byte: its code point by the windows-1252 index, and that in UTF-8.
-ghost use Rattle.std.specs.Prelude.{◌≡◌, ◌≤◌, ℕ, List, take};
-ghost use Rattle.utf8.specs.Characters.{code_point, encoded, character};
+ghost use Rattle.std.specs.Prelude.{◌≡◌, ◌≤◌, ℕ, List, length, take};
+ghost use Rattle.std.proofs.Common.{length-take-le};
+ghost use Rattle.utf8.specs.Characters.{code_point, encoded, character, filled};
 
 use std::marker::Model;
 
@@ -11,8 +12,8 @@ pub const INDEX: [u16; 32] = [
     0x2122, 0x161, 0x203A, 0x153, 0x9D, 0x17E, 0x178,
 ];
 
-// One to three bytes of UTF-8: the first `len`.
-#[derive(Drop)]
+// One to three bytes of UTF-8: the first `len`, and zeros behind them, so that what is shown tells the fields (a `Copy` type has to).
+#[derive(Clone, Copy)]
 pub struct Character {
     bytes: [u8; 3],
     len: usize,
@@ -23,7 +24,11 @@ impl Model for Character {
 
     ghost view = { λ c. take c.len c.bytes };
 
-    ghost invariant = { λ c. c.len ≤ 3 };
+    ghost invariant = { λ c. (c.len ≤ 3) × (c.len ≤ length c.bytes) × (filled (take c.len c.bytes) ≡ c.bytes) };
+
+    ghost inverse = { λ bs. record { bytes = filled bs; len = length bs } };
+
+    ghost inverse_ok = { λ c h i. record { bytes = h.2 i; len = length-take-le c.len c.bytes h.1 i } };
 }
 
 impl Character {
