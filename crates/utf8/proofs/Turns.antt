@@ -40,7 +40,7 @@ module _ (byte : ℕ) (xs s : List ℕ) (e : xs ≡ character byte) where
   found_nowhere only h = front_is_none s byte only (held h)
 
 -- ---- writing
-written_next : (bs : List ℕ) (i : ℕ) → i < length bs → written (drop i bs) ≡ character (get_or bs i 0) ++ written (drop (i + 1) bs)
+pub written_next : (bs : List ℕ) (i : ℕ) → i < length bs → written (drop i bs) ≡ character (get_or bs i 0) ++ written (drop (i + 1) bs)
 unfolding written
 written_next bs i h = rw (drop-cons bs i 0 h, add-one i)
 
