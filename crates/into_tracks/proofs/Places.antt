@@ -32,7 +32,7 @@ pub board_from_lem : (at : ℕ) (t : List ℕ) → board_from 0 (drop at t) ≡ 
 unfolding board_from
 board_from_lem at t = simp (get_or-drop, add-zero)
 
-board_taken : (t : List ℕ) → board_from 0 (take 11 t) ≡ board_from 0 t
+pub board_taken : (t : List ℕ) → board_from 0 (take 11 t) ≡ board_from 0 t
 unfolding board_from
 board_taken t =
     rw (
@@ -53,7 +53,7 @@ pub board_here : (at : ℕ) (t : List ℕ) → board_from 0 (take 11 (drop at t)
 board_here at t = board_taken (drop at t) ∙ board_from_lem at t
 
 -- a voice by fifteen words
-voice_taken : (t : List ℕ) → voice_from 0 (take 15 t) ≡ voice_from 0 t
+pub voice_taken : (t : List ℕ) → voice_from 0 (take 15 t) ≡ voice_from 0 t
 unfolding voice_from
 voice_taken t =
     rw (
