@@ -10,7 +10,7 @@ use native.Mathlib.Numerals.{add-one}
 use lib.ListN.{length, get_or, drop, drop_of_length-le, length-append}
 use lib.Seq.{drop-cons}
 use lib.Dec.{eqb, ltb}
-use borrow.Author.Tests.{lt-ltb, le-ltb, eqb-true, ltb-true, eq-eqb, ne_eqb}
+use borrow.Author.Tests.{lt-leb, lt-ltb, le-ltb, eqb-true, ltb-true, eq-eqb, ne_eqb}
 use Rattle.format.specs.Text.{pick}
 use Rattle.utf8.specs.Characters.{index, code_point, encoded, character}
 use Rattle.utf8.specs.Back.{begins, among, front}
@@ -61,6 +61,11 @@ module _ (c : ℕ) where
 pub character_length : (b : ℕ) → (1 ≤ length (character b)) × (length (character b) ≤ 3)
 unfolding character
 character_length b = encoded_length (code_point b)
+
+-- the character of a byte below 0x80 is one byte
+pub character_one : (b : ℕ) → b < 0x80 → 1 ≡ length (character b)
+unfolding code_point character
+character_one b h = rw (lt-leb 0x80 b h, encoded_one b h)
 
 -- ---- the code point that three bytes can be, the later ones only looked at where the first says so
 abbrev pub code_at : ℕ → ℕ → ℕ → ℕ

@@ -37,6 +37,20 @@ impl Character {
     {
         &self.bytes[..self.len]
     }
+
+    pub fn len(&self) -> usize
+        ensures { result ≡ length self.now }
+    {
+        self.len
+    }
+
+    // All three, of which the first `len` count, for a loop that writes them: for a slice the whole struct is made in memory, padding too,
+    // at each byte.
+    pub fn bytes(&self) -> [u8; 3]
+        ensures { take (length self.now) result ≡ self.now }
+    {
+        self.bytes
+    }
 }
 
 #[tactic(auto, unfolding(crate::specs::Characters::index, crate::specs::Characters::code_point))]

@@ -12,18 +12,18 @@ pub returns-in_err-needed : goal.returns-in_err-needed
 returns-in_err-needed c =
     let text = written c.args.text.now in
     let n = not_there _ _ _ c.in_err-needed.ensures.value in
-    let over = stated_over (length text) c.write.ensures.size n.0 in
+    let over = stated_over (length text) c.length_of.ensures n.0 in
     let e : c.from_residual.result ≡ Err c.in_err-needed.field-0.0 = search rules in
     rw (e, n.1) (short text _ (omega arith) (omega arith))
 
 pub returns-then-out-needed : goal.returns-then-out-needed
 returns-then-out-needed c =
     let text = written c.args.text.now in
-    let is = stated_is (length text) c.write.ensures.size _ (there _ _ _ c.in_ok-needed.ensures.value) in
+    let is = stated_is (length text) c.length_of.ensures _ (there _ _ _ c.in_ok-needed.ensures.value) in
     short text _ (omega arith) (omega arith)
 
 pub returns : goal.returns
 returns c =
     let text = written c.args.text.now in
-    let is = stated_is (length text) c.write.ensures.size _ (there _ _ _ c.in_ok-needed.ensures.value) in
-    fits text _ _ is.0 c.if-out-needed.false (c.write-2.ensures.stored is.1)
+    let is = stated_is (length text) c.length_of.ensures _ (there _ _ _ c.in_ok-needed.ensures.value) in
+    fits text _ _ is.0 c.if-out-needed.false c.write.ensures
