@@ -11,6 +11,7 @@ use model::Answer;
 use show::Tables;
 use show::page::Page;
 use std::io;
+use std::io::Write;
 
 // One byte more than is taken, to tell a longer file.
 const ROOM: usize = 1048577;
@@ -30,7 +31,7 @@ const TEXTS: usize = 4096 * TEXT_WORDS;
 fn print(rt: &impl Print, data: &[u8], answer: Answer, tables: Tables<'_>) -> io::Result<()> {
     let mut page = Page::new(io::writer(rt));
     show::dump(&mut page, data, answer, tables)?;
-    page.finish()
+    page.flush()
 }
 
 fn print_file(rt: &(impl Print + Eprint), data: &[u8]) -> io::Result<()> {

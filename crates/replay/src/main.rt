@@ -131,7 +131,7 @@ fn write_differences(
 fn name_differences(rt: &impl Print, listed: &[u32; WORDS], read: &[u32; WORDS]) {
     let mut page = Page::new(io::writer(rt));
     let _ = write_differences(&mut page, listed, read);
-    let _ = page.finish();
+    let _ = page.flush();
 }
 
 // Whether an input's record differs from the list's.

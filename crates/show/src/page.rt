@@ -1,8 +1,10 @@
 // A page of text in front of a writer. What is written is handed on where a line ends and the page has room for no other, so that
-// many lines are one write. It asks for no memory. A page that could not be written is told at the end; those after it are written
-// all the same.
-use std::io;
+// many lines are one write. It asks for no memory. A page that could not be written is told when the rest is flushed; those after it
+// are written all the same.
+ghost use Rattle.std.specs.Prelude.{◌≡◌};
+
 use std::io::Write;
+use std::{io, mem};
 
 const PAGE: usize = 65536;
 
@@ -18,7 +20,10 @@ pub struct Page<W: Write + Drop> {
 }
 
 impl<W: Write + Drop> Page<W> {
-    pub fn new(to: W) -> Page<W> {
+    pub fn new(to: W) -> Page<W>
+        ensures writer { result.to ≡ to }
+        ensures empty { result.at ≡ 0 }
+    {
         Page {
             to,
             text: [0; PAGE],
@@ -35,12 +40,6 @@ impl<W: Write + Drop> Page<W> {
             self.told = Err(error);
         }
     }
-
-    // Hands on the rest, and tells whether a page could not be written.
-    pub fn finish(mut self) -> io::Result<()> {
-        self.send();
-        self.told
-    }
 }
 
 impl<W: Write + Drop> Write for Page<W> {
@@ -55,7 +54,10 @@ impl<W: Write + Drop> Write for Page<W> {
         Ok(n)
     }
 
+    // Hands on the rest, and tells whether a page could not be written.
     fn flush(&mut self) -> io::Result<()> {
-        self.to.flush()
+        self.send();
+        self.to.flush()?;
+        mem::replace(&mut self.told, Ok(()))
     }
 }
