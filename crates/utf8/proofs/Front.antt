@@ -1,5 +1,5 @@
 -- The character at the front of a text is that of one byte: by its bytes the code point, by one test over all bytes the byte.
-use Prim.Native.Nat.{ℕ, zero, suc, ◌+◌, ◌*◌, ◌/◌, ◌%◌, ◌≤◌, ◌<◌}
+use Prim.Native.Nat.{ℕ, zero, suc, ◌+◌, ◌*◌, ◌/◌, ◌%◌, ◌-◌, ◌≤◌, ◌<◌}
 use native.Mathlib.Omega.{arith}
 use native.Mathlib.Decide.{dec_lt}
 use mathlib.Core.Path.{◌≡◌, refl, ap, sym, ◌∙◌}
@@ -7,8 +7,8 @@ use mathlib.Core.List.{List, [], ◌∷◌, ◌++◌}
 use mathlib.Core.Bool.{Bool, true, false, ◌&&◌}
 use Rattle.std.specs.Prelude.{Option, None, Some}
 use native.Mathlib.Numerals.{add-one}
-use lib.ListN.{length, get_or, drop, drop_of_length-le, length-append}
-use lib.Seq.{drop-cons}
+use lib.ListN.{length, get_or, take, drop, drop_of_length-le, length-append}
+use lib.Seq.{take_all, drop-cons}
 use lib.Dec.{eqb, ltb}
 use borrow.Author.Tests.{lt-leb, lt-ltb, le-ltb, eqb-true, ltb-true, eq-eqb, ne_eqb}
 use Rattle.format.specs.Text.{pick}
@@ -62,10 +62,13 @@ pub character_length : (b : ℕ) → (1 ≤ length (character b)) × (length (ch
 unfolding character
 character_length b = encoded_length (code_point b)
 
--- the character of a byte below 0x80 is one byte
-pub character_one : (b : ℕ) → b < 0x80 → 1 ≡ length (character b)
+-- the character of a byte below 0x80 is that byte
+character_same : (b : ℕ) → b < 0x80 → character b ≡ b ∷ []
 unfolding code_point character
-character_one b h = rw (lt-leb 0x80 b h, encoded_one b h)
+character_same b h = rw (lt-leb 0x80 b h) (encoded_one b h)
+
+pub character_one : (b : ℕ) → b < 0x80 → 1 ≡ length (character b)
+character_one b h = rw (character_same b h)
 
 -- ---- the code point that three bytes can be, the later ones only looked at where the first says so
 abbrev pub code_at : ℕ → ℕ → ℕ → ℕ
@@ -221,6 +224,15 @@ front_is_none us a one e = judged (front us) refl
         let k : a ≡ b = one b t.0 t.1 in
         let r : begins (character a) us ≡ true = rw (← k) at t.1 in
         let z : ◌≡◌ {A = Bool} true false = sym r ∙ e in cc
+
+-- a byte below 0x80 at the front is its own character, and the rest stands behind it
+pub front_ascii : (us : List ℕ) → 1 ≤ length us → get_or us 0 0 < 0x80
+    → (front us ≡ Some (get_or us 0 0)) × (take (length us - 1) (drop 1 us) ≡ drop (length (character (get_or us 0 0))) us)
+front_ascii [] l h = absurd (omega arith)
+front_ascii (u ∷ us) l h =
+    let e : character u ≡ u ∷ [] = character_same u h in
+    let t : begins (character u) (u ∷ us) ≡ true = rw e (begins_append (u ∷ []) us) in
+    (front_is (u ∷ us) u (omega arith) t, rw e (take_all (length (u ∷ us) - 1) us (omega arith)))
 
 -- the character is no longer than the text
 pub front_length : (us : List ℕ) (b : ℕ) → front us ≡ Some b → (1 ≤ length (character b)) × (length (character b) ≤ length us)

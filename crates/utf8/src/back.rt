@@ -44,6 +44,12 @@ fn front_of(s: &[u8]) -> Option<(u8, &[u8])>
     ensures { MatchOption result (front s.now ≡ None)
         (λ x. (front s.now ≡ Some x.0) × (x.1.now ≡ drop (length (character x.0)) s.now)) }
 {
+    // What is ASCII stands for itself: no character is made in memory and compared there.
+    if let [first, rest @ ..] = s
+        && *first < 0x80
+    {
+        return Some((*first, rest));
+    }
     let code = code_at(s);
     let byte = byte_of(code);
     let character = character_of(byte);
